@@ -1,0 +1,42 @@
+-- The one-pass rule over any marks: document 01, "The one-pass rule". A log of n bytes is seen here only through its marks.
+use Prim.Native.Nat.{ℕ, zero, suc, _+_, _-_, min}
+use mathlib.Core.Bool.{Bool, true, false}
+use mathlib.Core.List.{List, [], _∷_}
+use lib.Dec.{leb, ltb}
+
+-- the first of the k offsets from p on that is a mark; other where none is
+unfoldable pub firstMark : (ℕ → Bool) → ℕ → ℕ → ℕ → ℕ
+firstMark mark zero p other = other
+firstMark mark (suc k) p other = elim (mark p) [ true ↦ p | false ↦ firstMark mark k (suc p) other ]
+
+-- after a cut c below n: the first mark from c + minimum to c + maximum, both included and none past n;
+-- where there is none, c + maximum if that is at most n, else n
+unfoldable pub next : (ℕ → Bool) → ℕ → ℕ → ℕ → ℕ → ℕ
+next mark minimum maximum n c =
+    let last = min (c + maximum) n in
+    firstMark mark (suc last - (c + minimum)) (c + minimum) last
+
+-- what follows c by steps of next, up to n; fuel bounds the number of steps
+unfoldable pub chain : (ℕ → ℕ) → ℕ → ℕ → ℕ → List ℕ
+chain next n zero c = []
+chain next n (suc fuel) c = elim (ltb c n) [ true ↦ next c ∷ chain next n fuel (next c) | false ↦ [] ]
+
+-- the cuts after the cut c, to the log's end
+unfoldable pub cutsFrom : (ℕ → Bool) → ℕ → ℕ → ℕ → ℕ → List ℕ
+cutsFrom mark minimum maximum n c = chain (next mark minimum maximum n) n (n - c) c
+
+-- all cuts of a log: the first piece starts at 0
+abbrev pub cuts : (ℕ → Bool) → ℕ → ℕ → ℕ → List ℕ
+cuts mark minimum maximum n = cutsFrom mark minimum maximum n 0
+
+-- the next cut of a log that goes on for ever: where next stops at n, the hop goes past it
+unfoldable pub hop : (ℕ → Bool) → ℕ → ℕ → ℕ → ℕ
+hop mark minimum maximum c = firstMark mark (suc maximum - minimum) (c + minimum) (c + maximum)
+
+-- what follows c by hops that stay at or below e: the cuts up to e, without n where n is a cut only because the log ends there
+unfoldable pub hops : (ℕ → ℕ) → ℕ → ℕ → ℕ → List ℕ
+hops hop e zero c = []
+hops hop e (suc fuel) c = elim (leb (hop c) e) [ true ↦ hop c ∷ hops hop e fuel (hop c) | false ↦ [] ]
+
+unfoldable pub cutsUpTo : (ℕ → Bool) → ℕ → ℕ → ℕ → ℕ → List ℕ
+cutsUpTo mark minimum maximum e c = hops (hop mark minimum maximum) e (e - c) c

@@ -1,0 +1,3 @@
+pub mod Settings
+pub mod Refusals
+pub mod Labels
