@@ -29,7 +29,7 @@ module _ (next : ℕ → ℕ) (n : ℕ) where
   unfolding chain
   one-more fuel c h = rw (lt-ltb c n h, chain)
 
-  at-end : (fuel c : ℕ) → n ≤ c → chain next n fuel c ≡ []
+  pub at-end : (fuel c : ℕ) → n ≤ c → chain next n fuel c ≡ []
   unfolding chain
   at-end zero c h = refl
   at-end (suc fuel) c h = rw (le-ltb c n h, chain)
@@ -42,7 +42,7 @@ module _ (next : ℕ → ℕ) (n : ℕ) where
     enough (suc j) (suc k) c hj hk =
         by-lt c n
         (λ h. let up : c < next c = ok .rises c h in
-          one-more j c h ∙ ap (λ l. next c ∷ l) (enough j k (next c) (omega arith) (omega arith)) ∙ sym (one-more k c h))
+        one-more j c h ∙ ap (λ l. next c ∷ l) (enough j k (next c) (omega arith) (omega arith)) ∙ sym (one-more k c h))
         (λ h. at-end (suc j) c h ∙ sym (at-end (suc k) c h))
 
     pub opened : (c : ℕ) → c < n → chain next n (n - c) c ≡ next c ∷ chain next n (n - next c) (next c)
@@ -64,7 +64,7 @@ module _ (next : ℕ → ℕ) (n : ℕ) where
     by-fuel (suc fuel) c h f =
         by-lt c n
         (λ below. let up : c < next c = ok .rises c below in
-          rw (opened c below) (onward below (by-fuel fuel (next c) (ok .within c below) (omega arith))))
+        rw (opened c below) (onward below (by-fuel fuel (next c) (ok .within c below) (omega arith))))
         (ended c h)
 
     -- all cuts after c are a run that ends at n
@@ -95,6 +95,6 @@ module _ (next next′ : ℕ → ℕ) (n n′ a b : ℕ) (ends : n + b ≡ n′ 
   chains-alike from step (suc fuel) c c′ h e =
       by-lt c n
       (λ below. let s = step c c′ h below e in
-        rw (one-more next n fuel c below, one-more next′ n′ fuel c′ (omega arith))
-        (ap₂ _∷_ (s .1) (chains-alike from step fuel (next c) (next′ c′) (s .0) (s .1))))
+      rw (one-more next n fuel c below, one-more next′ n′ fuel c′ (omega arith))
+      (ap₂ _∷_ (s .1) (chains-alike from step fuel (next c) (next′ c′) (s .0) (s .1))))
       (λ past. rw (at-end next n (suc fuel) c past, at-end next′ n′ (suc fuel) c′ (omega arith)))

@@ -62,5 +62,5 @@ module _ (mark mark′ : ℕ → Bool) (a b other other′ : ℕ) (others : othe
       by-test (mark p)
       (λ t. rw (hit mark other k p t, hit mark′ other′ k q (sym here ∙ t)) e)
       (λ t. rw (miss mark other k p t, miss mark′ other′ k q (sym here ∙ t))
-        (first-moves k (suc p) (suc q) (omega arith)
-          (λ i h. ap mark (omega arith) ∙ same (suc i) (omega arith) ∙ ap mark′ (omega arith))))
+      (first-moves k (suc p) (suc q) (omega arith)
+      (λ i h. ap mark (omega arith) ∙ same (suc i) (omega arith) ∙ ap mark′ (omega arith))))

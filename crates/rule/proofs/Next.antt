@@ -45,7 +45,7 @@ pub rising : (mark : ℕ → Bool) (lo hi n : ℕ) → 0 < lo → lo ≤ hi → 
 rising mark lo hi n positive order =
     record {
       rises = λ c h. next-step mark lo hi n c order .onward positive h;
-      within = λ c h. next-step mark lo hi n c order .inside
+      within = λ c h. next-step mark lo hi n c order .inside;
     }
 
 -- the tail law: the next cut depends on what is left of the log and on the marks that lie there, wherever in a log it lies

@@ -50,5 +50,15 @@ unfoldable pub hops : (ℕ → ℕ) → ℕ → ℕ → ℕ → List ℕ
 hops hop e zero c = []
 hops hop e (suc fuel) c = elim (leb (hop c) e) [ true ↦ hop c ∷ hops hop e fuel (hop c) | false ↦ [] ]
 
+-- the last entry of a list, or c where it has none
+unfoldable pub lastOr : ℕ → List ℕ → ℕ
+lastOr c [] = c
+lastOr c (x ∷ xs) = lastOr x xs
+
+-- the cuts after the cut c up to e
 unfoldable pub cutsUpTo : (ℕ → Bool) → ℕ → ℕ → ℕ → ℕ → List ℕ
 cutsUpTo mark minimum maximum e c = hops (hop mark minimum maximum) e (e - c) c
+
+-- the log's end, where the last cut m before it is not the end already
+unfoldable pub closing : ℕ → ℕ → List ℕ
+closing n m = elim (ltb m n) [ true ↦ n ∷ [] | false ↦ [] ]
