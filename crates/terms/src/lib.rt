@@ -47,6 +47,15 @@ pub enum Refusal {
     ListFull,
 }
 
+// What a call answers: the entries or bytes written, or why it is refused.
+pub enum Answer {
+    Wrote(u64),
+    Refused(Refusal),
+}
+
+// A log has at most this many bytes.
+pub const LONGEST: u64 = 1_099_511_627_776;
+
 impl Settings {
     // Whether every setting is within its range.
     pub fn in_range(self) -> bool
