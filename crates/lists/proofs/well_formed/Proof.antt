@@ -1,0 +1,69 @@
+-- `lists::well_formed` meets its contract. The invariant: the list is well formed exactly where its steps from the entry before on fit.
+use mathlib.Core.Path.{_≡_, refl, sym, _∙_}
+use Prim.Native.Nat.{_≤_, _-_}
+use lib.ListN.{length, drop}
+use borrow.Author.Needs.{needs}
+use borrow.Author.Tests.{le-leb, lt-leb, not-true, not-false}
+use native.Mathlib.Omega.{arith}
+use Rattle.lists.specs.WellFormed.{stepsFit, wellFormed}
+use Rattle.lists.proofs.Steps.{step-passed, step-refused, steps-end}
+use Rattle.lists.proofs.well_formed.Statement.{statement}
+use Rattle.lists.proofs.well_formed.Tie as tie
+
+abbrev Inv-loop : tie.InvT-loop
+Inv-loop minimum maximum list before₀ i₀ before i = (i ≤ length list) × (wellFormed minimum maximum list ≡ stepsFit minimum maximum before (drop i list))
+
+abbrev μ-loop : tie.MeasureT-loop
+μ-loop minimum maximum list before₀ i₀ before i = length list - i
+
+loop-holds : tie.Need-loop-holds Inv-loop μ-loop
+unfolding wellFormed
+loop-holds c = (search needs, refl)
+
+mul-entry : tie.Need-mul-entry Inv-loop μ-loop
+mul-entry c = search needs
+
+shared-slice-read-entry : tie.Need-shared-slice-read-entry Inv-loop μ-loop
+shared-slice-read-entry c = search needs
+
+add-step-fits : tie.Need-add-step-fits Inv-loop μ-loop
+add-step-fits c = search needs
+
+step-fits-requires : tie.Need-step-fits-requires Inv-loop μ-loop
+step-fits-requires c κs = search needs
+
+returns : tie.Need-returns Inv-loop μ-loop
+returns c = sym (c .before .before .before .before .loop .inv .1 ∙ step-refused _ _ _ _ _ _ (c .before .before .before .loop-test .taken) (c .before .step-fits .ensures) (not-true _ (c .if1 .taken)))
+
+add-i : tie.Need-add-i Inv-loop μ-loop
+add-i c = search needs
+
+loop-less : tie.Need-loop-less Inv-loop μ-loop
+loop-less c = search needs
+
+loop-again : tie.Need-loop-again Inv-loop μ-loop
+loop-again c = (search needs, c .before .before .before .before .loop .inv .1 ∙ step-passed _ _ _ _ _ _ (c .before .before .before .loop-test .taken) (c .before .step-fits .ensures) (not-false _ (c .if1 .left)))
+
+returns-2 : tie.Need-returns-2 Inv-loop μ-loop
+returns-2 c = sym (c .before .before .loop .inv .1 ∙ steps-end _ _ _ _ _ (c .before .loop-test .left) ∙ lt-leb _ _ (c .if2 .taken))
+
+returns-3 : tie.Need-returns-3 Inv-loop μ-loop
+returns-3 c = sym (c .before .before .loop .inv .1 ∙ steps-end _ _ _ _ _ (c .before .loop-test .left) ∙ le-leb _ _ (c .if2 .left))
+
+pub well-formed-spec : {M : Type 1} → statement M
+well-formed-spec =
+    tie.close
+    (tie.spec
+    Inv-loop
+    μ-loop
+    loop-holds
+    mul-entry
+    shared-slice-read-entry
+    add-step-fits
+    step-fits-requires
+    returns
+    add-i
+    loop-less
+    loop-again
+    returns-2
+    returns-3)

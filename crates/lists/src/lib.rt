@@ -1,0 +1,43 @@
+// Lists of cuts: when one is well formed.
+ghost use mathlib.Core.Path.{_≡_};
+ghost use Rattle.lists.specs.WellFormed.{stepFits, wellFormed};
+
+// Whether the step from one entry to the next is allowed. The numbers are any: that they rise is seen before they are subtracted.
+pub fn step_fits(minimum: u64, maximum: u64, last: bool, before: u64, entry: u64) -> bool
+    ensures { λ r. ⌜ r ≡ stepFits minimum maximum last before entry ⌝ }
+{
+    if entry <= before {
+        return false;
+    }
+    let step = entry - before;
+    if step > maximum {
+        return false;
+    }
+    if last {
+        return true;
+    }
+    if step < minimum {
+        return false;
+    }
+    true
+}
+
+// Whether a list is empty, or rises from 0 by allowed steps to 2^40 at most.
+pub fn well_formed(minimum: u64, maximum: u64, list: &[u64]) -> bool
+    ensures { λ r. ⌜ r ≡ wellFormed minimum maximum (now (list .entry)) ⌝ }
+{
+    let mut before: u64 = 0;
+    let mut i = 0;
+    while i < list.len() {
+        let entry = list[i];
+        if !step_fits(minimum, maximum, i + 1 == list.len(), before, entry) {
+            return false;
+        }
+        before = entry;
+        i += 1;
+    }
+    if before > 0x100_0000_0000 {
+        return false;
+    }
+    true
+}
