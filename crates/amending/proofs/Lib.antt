@@ -1,0 +1,4 @@
+pub mod Split
+pub mod Front
+pub mod Runs
+pub mod Amended

@@ -1,0 +1,1 @@
+// Amending a list of cuts after an edit of its log.
