@@ -2,24 +2,17 @@
 -- below the change's place, the old end excepted, is cut again; and past the change the two logs' cuts lie alike.
 use Prim.Native.Nat.{ℕ, zero, suc, _+_, _-_, _≤_, _<_}
 use mathlib.Core.Path.{_≡_, refl, sym, ap, ap₂, _∙_, subst}
-use mathlib.Core.Bool.{Bool, true, false, _&&_, not}
+use mathlib.Core.Bool.{Bool, true, false}
 use mathlib.Core.List.{List, [], _∷_, _++_, map}
 use native.Mathlib.Omega.{arith}
-use lib.Dec.{leb, eqb}
-use borrow.Author.Tests.{leb-true, eqb-true}
-use Rattle.laws.proofs.Cases.{both-true}
 use Rattle.laws.specs.Last.{lastOr}
-use Rattle.lists.specs.WellFormed.{isEmpty}
 use Rattle.rule.specs.Rule.{chain}
 use Rattle.rule.proofs.Chain.{Run, stay, onward, Rising, parted, whole, run-kept, chains-alike}
 use Rattle.amending.specs.Parts.{front, pastFront, restart, before, since, wasAt, meets, moved, backFrom, recut, back, amendedList}
 use Rattle.amending.proofs.Split.{Split, split, joined, heads}
 use Rattle.amending.proofs.Front.{Front, front-is, front-joined}
+use Rattle.amending.proofs.Meets.{placed}
 use Rattle.amending.proofs.Runs.{run-front, run-after, run-head, run-all, restarts-low, restarts-inside}
-
-pub was-at : (d e t x : ℕ) → wasAt d e t x ≡ true → x + e ≡ t + d
-unfolding wasAt
-was-at d e t x h = eqb-true (x + e) (t + d) h
 
 -- lists that lie alike are equal once the one is moved
 all-moved : (d e : ℕ) (k l : List ℕ) → map (λ x. x + e) k ≡ map (λ x. x + d) l → map (moved d e) k ≡ l
@@ -48,14 +41,11 @@ module _ (next next′ : ℕ → ℕ) (n n′ s d e : ℕ) (ok : Rising next n) 
       → ((t : ℕ) (later : List ℕ) → r ≡ t ∷ later → meets s d e past t ≡ true) → backFrom d e past r ≡ r
   unfolding backFrom
   back-is c m past [] old new met = refl
-  back-is c m past (t ∷ later) old new met = placed (since (wasAt d e t) past) (split (wasAt d e t) past) (unfold meets in both-true (met t later refl))
-    where
-      placed : (k : List ℕ) → Split (wasAt d e t) past (before (wasAt d e t) past) k → (leb (s + e) t ≡ true) × (not (isEmpty k) ≡ true) → map (moved d e) k ≡ t ∷ later
-      placed [] parts both = absurd (let z : _≡_ {A = ℕ} 0 1 = unfold isEmpty in cc in omega arith)
-      placed (x ∷ k) parts both =
-          let old-run : Run next n c (before (wasAt d e t) past ++ (x ∷ k)) n = rw (joined parts) old in
-          let from-x = run-head next n (run-after next n (before (wasAt d e t) past) (x ∷ k) old-run) in
-          tails x t k later (leb-true _ _ (both .0)) (was-at d e t x (heads parts)) (from-x .2) (run-head next′ n′ new .2)
+  back-is c m past (t ∷ later) old new met =
+      let (x, k, at) = placed s d e past t (met t later refl) in
+      let old-run : Run next n c (before (wasAt d e t) past ++ (x ∷ k)) n = rw (at .whole) old in
+      let from-x = run-head next n (run-after next n (before (wasAt d e t) past) (x ∷ k) old-run) in
+      rw (at .onward) (tails x t k later (at .far) (at .place) (from-x .2) (run-head next′ n′ new .2))
 
   parts-joined : (old f past : List ℕ) → Front s old f past → Run next n 0 old n
       → (news : List ℕ) → chain next′ n′ (n′ - lastOr 0 f) (lastOr 0 f) ≡ news
