@@ -3,10 +3,13 @@ use Prim.Native.Nat.{ℕ, zero, suc, _≤_, _<_}
 use mathlib.Core.Path.{_≡_, refl, sym, ap, _∙_}
 use mathlib.Core.Bool.{Bool, true, false}
 use mathlib.Core.List.{List, [], _∷_, _++_}
+use native.Mathlib.Omega.{arith}
 use lib.Dec.{leb}
 use lib.ListN.{take, drop}
 use borrow.Author.Tests.{le-leb, lt-leb}
 use Rattle.laws.proofs.Cases.{by-lt}
+use Rattle.laws.specs.Last.{lastOr}
+use Rattle.lists.specs.WellFormed.{isEmpty}
 use Rattle.amending.specs.Parts.{frontCount, front, pastFront}
 
 -- a list, its front and what follows it
@@ -43,3 +46,19 @@ front-joined none-old = refl
 front-joined old-end = refl
 front-joined (beyond h) = refl
 front-joined (kept {x = x} h f) = ap (λ k. x ∷ k) (front-joined f)
+
+-- cutting restarts at or below s
+pub restarts-low : {s b : ℕ} {l f p : List ℕ} → b ≤ s → Front s l f p → lastOr b f ≤ s
+unfolding lastOr
+restarts-low low none-old = low
+restarts-low low old-end = low
+restarts-low low (beyond h) = low
+restarts-low low (kept h f) = restarts-low h f
+
+-- the old end is left, if there is one
+pub past-some : {s : ℕ} {l f p : List ℕ} → Front s l f p → isEmpty l ≡ false → isEmpty p ≡ false
+unfolding isEmpty
+past-some none-old h = h
+past-some old-end h = refl
+past-some (beyond h) k = refl
+past-some (kept h f) k = past-some f refl

@@ -6,3 +6,4 @@ pub mod Amended
 pub mod ByMarks
 pub mod Steps
 pub mod Told
+pub mod Chained

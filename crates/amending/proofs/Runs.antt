@@ -26,14 +26,7 @@ module _ (next : ℕ → ℕ) (n : ℕ) where
   pub run-all : Rising next n → {c : ℕ} {l : List ℕ} → Run next n c l n → chain next n (n - c) c ≡ l
   run-all ok {c} {l} r = parted next n ok r ∙ ap (λ k. l ++ k) (at-end next n (n - n) n (omega arith)) ∙ append-nil l
 
-  -- where cutting restarts: at or below s, and below the log's end
-  pub restarts-low : {s c m : ℕ} {l f p : List ℕ} → Front s l f p → Run next n c l m → c ≤ s → lastOr c f ≤ s
-  unfolding lastOr
-  restarts-low none-old r h = h
-  restarts-low old-end r h = h
-  restarts-low (beyond b) r h = h
-  restarts-low (kept b f) (onward _ r) h = restarts-low f r b
-
+  -- where the old log is not empty, cutting restarts below its end
   pub restarts-inside : {s c m : ℕ} {l f p : List ℕ} → Front s l f p → Run next n c l m → c < n → lastOr c f < n
   unfolding lastOr
   restarts-inside none-old r h = h

@@ -66,6 +66,17 @@ module _ (lo hi : ℕ) where
   reaches-up positive (last-step up near) = omega arith
   reaches-up positive (full-step far near more) = omega (arith, reaches-up positive more)
 
+  -- the first step of a list rises, and is at least minimum where more follows
+  pub record Stride (b x m : ℕ) : Type 0 where
+    pub up : b < x
+    pub near : x ≤ b + hi
+    pub within : x ≤ m
+    pub far : x < m → b + lo ≤ x
+
+  pub first-step : {b x m : ℕ} {l : List ℕ} → 0 < lo → Reaches lo hi b (x ∷ l) m → Stride b x m
+  first-step positive (last-step up near) = record { up = up; near = near; within = omega arith; far = λ h. absurd (omega arith) }
+  first-step positive (full-step far near more) = record { up = omega arith; near = near; within = reaches-up positive more; far = λ h. far }
+
   -- parted where something follows
   pub steps-before : (k : List ℕ) (t : ℕ) (r : List ℕ) {b m : ℕ} → Reaches lo hi b (k ++ (t ∷ r)) m → Steps lo hi b k (lastOr b k)
   unfolding lastOr
