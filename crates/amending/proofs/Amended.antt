@@ -7,12 +7,12 @@ use mathlib.Core.List.{List, [], _∷_, _++_, map}
 use native.Mathlib.Omega.{arith}
 use Rattle.laws.specs.Last.{lastOr}
 use Rattle.rule.specs.Rule.{chain}
-use Rattle.rule.proofs.Chain.{Run, stay, onward, Rising, parted, whole, run-kept, chains-alike}
+use Rattle.rule.proofs.Chain.{Run, stay, onward, Rising, parted, whole, chains-alike}
 use Rattle.amending.specs.Parts.{front, pastFront, restart, before, since, wasAt, meets, moved, backFrom, recut, back, amendedList}
 use Rattle.amending.proofs.Split.{Split, split, joined, heads}
 use Rattle.amending.proofs.Front.{Front, front-is, front-joined, restarts-low}
 use Rattle.amending.proofs.Meets.{placed}
-use Rattle.amending.proofs.Runs.{run-front, run-after, run-head, run-all, restarts-inside}
+use Rattle.amending.proofs.Runs.{run-front, run-after, run-head, run-all, restarts-inside, run-kept-from}
 
 -- lists that lie alike are equal once the one is moved
 all-moved : (d e : ℕ) (k l : List ℕ) → map (λ x. x + e) k ≡ map (λ x. x + d) l → map (moved d e) k ≡ l
@@ -54,7 +54,7 @@ module _ (next next′ : ℕ → ℕ) (n n′ s d e : ℕ) (ok : Rising next n) 
       let c : ℕ = lastOr 0 f in
       let low : c ≤ s = restarts-low (omega arith) parts in
       let old-run : Run next n 0 (f ++ past) n = rw (front-joined parts) run in
-      let again : Run next′ n′ 0 f c = run-kept ok (λ x b up. let rise : x < next x = ok .rises x b in let below : c < n = restarts-inside next n parts run (omega arith) in (omega arith, kept x b (omega arith) (omega arith))) (run-front next n f past old-run) in
+      let again : Run next′ n′ 0 f c = run-kept-from ok (λ x from b up. let rise : x < next x = ok .rises x b in let below : c < n = restarts-inside next n parts run (omega arith) in (omega arith, kept x b (omega arith) (omega arith))) (run-front next n f past old-run) in
       let halves = split (meets s d e past) news in
       let new-run : Run next′ n′ c news n′ = subst (λ l. Run next′ n′ c l n′) cut (whole next′ n′ ok′ c (omega arith)) in
       let new-halves : Run next′ n′ c (before (meets s d e past) news ++ since (meets s d e past) news) n′ = rw (joined halves) new-run in

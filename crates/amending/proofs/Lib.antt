@@ -7,3 +7,4 @@ pub mod ByMarks
 pub mod Steps
 pub mod Told
 pub mod Chained
+pub mod Stretch

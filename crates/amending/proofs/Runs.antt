@@ -5,7 +5,7 @@ use mathlib.Core.List.{List, [], _∷_, _++_, append-nil}
 use native.Mathlib.Omega.{arith}
 use Rattle.laws.specs.Last.{lastOr}
 use Rattle.rule.specs.Rule.{chain}
-use Rattle.rule.proofs.Chain.{Run, stay, onward, Rising, parted, at-end}
+use Rattle.rule.proofs.Chain.{Run, stay, onward, Rising, parted, at-end, run-rises}
 use Rattle.amending.proofs.Front.{Front, none-old, old-end, beyond, kept}
 
 module _ (next : ℕ → ℕ) (n : ℕ) where
@@ -33,3 +33,13 @@ module _ (next : ℕ → ℕ) (n : ℕ) where
   restarts-inside old-end r h = h
   restarts-inside (beyond b) r h = h
   restarts-inside (kept b f) (onward _ r) h = restarts-inside f r (run-head r .0)
+
+-- a run is one of another rule too, where that rule agrees on each step from its start to its end
+pub run-kept-from : {next next′ : ℕ → ℕ} {n n′ : ℕ} → Rising next n → {c m : ℕ} {l : List ℕ}
+    → ((x : ℕ) → c ≤ x → x < n → next x ≤ m → (x < n′) × (next′ x ≡ next x)) → Run next n c l m → Run next′ n′ c l m
+run-kept-from ok agree stay = stay
+run-kept-from {next} {next′} {n} {n′} ok agree (onward {c = c} {l = l} {m = m} h r) =
+    let up : c < next c = ok .rises c h in
+    let same = agree c (omega arith) h (run-rises next n ok r) in
+    subst (λ x. Run next′ n′ c (x ∷ l) m) (same .1)
+    (onward (same .0) (subst (λ x. Run next′ n′ x l m) (sym (same .1)) (run-kept-from ok (λ x from below near. agree x (omega arith) below near) r)))

@@ -46,6 +46,11 @@ meets s d e past t = leb (s + e) t && not (isEmpty (since (wasAt d e t) past))
 unfoldable pub moved : (d e x : ℕ) → ℕ
 moved d e x = x + e - d
 
+-- the first entry, or other where there is none
+unfoldable pub firstOr : (other : ℕ) → List ℕ → ℕ
+firstOr other [] = other
+firstOr other (x ∷ rest) = x
+
 -- the back, given the new cuts from the meeting on: the old cut at the meeting and all later ones, moved; none where nothing meets
 unfoldable pub backFrom : (d e : ℕ) → (past : List ℕ) → List ℕ → List ℕ
 backFrom d e past [] = []
@@ -61,3 +66,7 @@ module _ (newCuts : ℕ → List ℕ) (old : List ℕ) (s d e : ℕ) where
 
   unfoldable pub amendedList : List ℕ
   amendedList = front s old ++ (recut ++ back)
+
+  -- the recut stretch is the new log's bytes from the restart to the meeting, or to the new end n where there is none
+  unfoldable pub stretchEnd : (n : ℕ) → ℕ
+  stretchEnd n = firstOr n (since (meets s d e (pastFront s old)) (newCuts (restart s old)))
