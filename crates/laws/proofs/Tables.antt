@@ -22,8 +22,11 @@ tabulated f g same (x ∷ xs) i t =
     ap₂ _∷_ (eqb→eq x (g i) (and-l (eqb x (g i)) (follows g (suc i) xs) t) ∙ same i)
     (tabulated f g same xs (suc i) (and-r (eqb x (g i)) (follows g (suc i) xs) t))
 
-pub getD-tabulate : (f : ℕ → ℕ) (n i k : ℕ) → k < n → getD (tabulate f i n) k 0 ≡ f (i + k)
+from-place : (f : ℕ → ℕ) (n i k : ℕ) → k < n → getD (tabulate f i n) k 0 ≡ f (i + k)
 unfolding tabulate
-getD-tabulate f zero i k h = absurd (not-suc-le-zero h)
-getD-tabulate f (suc n) i zero h = ap f (sym (add-zero i))
-getD-tabulate f (suc n) i (suc k) h = getD-tabulate f n (suc i) k (le-of-suc-le-suc h) ∙ ap f (suc-add i k ∙ sym (add-suc i k))
+from-place f zero i k h = absurd (not-suc-le-zero h)
+from-place f (suc n) i zero h = ap f (sym (add-zero i))
+from-place f (suc n) i (suc k) h = from-place f n (suc i) k (le-of-suc-le-suc h) ∙ ap f (suc-add i k ∙ sym (add-suc i k))
+
+pub getD-tabulate : (f : ℕ → ℕ) (n k : ℕ) → k < n → getD (tabulate f 0 n) k 0 ≡ f k
+getD-tabulate f n k h = from-place f n 0 k h ∙ ap f (zero-add k)

@@ -2,20 +2,20 @@
 -- any length of the window. At the end the window of 48 bytes, in the form that a search through a log cites.
 use mathlib.Core.Path.{_≡_, refl, sym, ap, ap₂, subst, _∙_}
 use mathlib.Core.List.{List, [], _∷_, _++_}
-use Prim.Native.Nat.{ℕ, zero, suc, _+_, _*_, _^_, _≤_, _<_}
-use native.Mathlib.Nat.{mul-suc, mul-comm, le-of-lt, lt-of-lt-of-le, not-suc-le-zero}
+use Prim.Native.Nat.{ℕ, zero, suc, _+_, _-_, _*_, _/_, _%_, _^_, _≤_, _<_}
+use native.Mathlib.Nat.{mul-suc, mul-comm, le-of-lt, mod-lt, lt-of-lt-of-le, not-suc-le-zero}
 use native.Mathlib.Numerals.{add-one}
 use native.Mathlib.Omega.{arith}
 use lib.Arith.{digits-lt}
 use lib.Dec.{lit<, lit≤}
-use lib.Pow.{pow-add, pow-mono}
-use lib.Bits.{bitXor, xor-comm, xor-shifted}
+use lib.Pow.{pow-pos, pow-add, pow-mono, shl-exact}
+use lib.Bits.{bitAnd, bitOr, bitXor, and-mask, or-shifted, xor-comm, xor-shifted}
 use lib.ListN.{length, getD, take, drop, length-append, length-drop}
 use lib.Seq.{take-suc, drop-cons, getD-drop, length-take-le}
 use Rattle.signature.specs.Polynomials.{rem}
-use Rattle.signature.specs.Signatures.{number, signature, pushed, rolled, degree, lowPart, signatureOf, window}
+use Rattle.signature.specs.Signatures.{number, signature, grown, rolled, degree, lowPart, signatureOf, window}
 use Rattle.signature.proofs.Xor.{xor-cancel}
-use Rattle.signature.proofs.Remainders.{rem-lt, rem-small, rem-xor, rem-shift}
+use Rattle.signature.proofs.Remainders.{rem-lt, rem-small, rem-xor, rem-shift, rem-by-top}
 
 abbrev pub Bytes : List ℕ → Type 0
 Bytes bs = (j : ℕ) → getD bs j 0 < 2 ^ 8
@@ -52,17 +52,17 @@ regroup b p n e = omega arith
 
 module _ (d l : ℕ) (low : l < 2 ^ d) (wide : 8 ≤ d) where
   -- a byte enters: what is shifted and what is added are reduced as one
-  pub pushed-reduced : (s e : ℕ) → e < 2 ^ 8 → pushed d l s e ≡ rem d l (s * 2 ^ 8 + e)
-  unfolding pushed
-  pushed-reduced s e h =
+  pub grown-reduced : (s e : ℕ) → e < 2 ^ 8 → grown d l s e ≡ rem d l (s * 2 ^ 8 + e)
+  unfolding grown
+  grown-reduced s e h =
       ap (bitXor (rem d l (s * 2 ^ 8))) (sym (rem-small d l low e (lt-of-lt-of-le h (pow-mono wide))))
       ∙ sym (rem-xor d l low (s * 2 ^ 8) e)
       ∙ ap (rem d l) (xor-shifted s 8 e h)
 
-  pub signature-snoc : (bs : List ℕ) (e : ℕ) → e < 2 ^ 8 → signature d l (bs ++ e ∷ []) ≡ pushed d l (signature d l bs) e
+  pub signature-snoc : (bs : List ℕ) (e : ℕ) → e < 2 ^ 8 → signature d l (bs ++ e ∷ []) ≡ grown d l (signature d l bs) e
   unfolding signature
   signature-snoc bs e h =
-      ap (rem d l) (number-snoc bs e) ∙ rem-shift d l low 8 (number bs) e h ∙ sym (pushed-reduced (rem d l (number bs)) e h)
+      ap (rem d l) (number-snoc bs e) ∙ rem-shift d l low 8 (number bs) e h ∙ sym (grown-reduced (rem d l (number bs)) e h)
 
   -- a window of m bytes slides by one: b leaves and e enters
   pub slide : (m b : ℕ) (rest : List ℕ) (e : ℕ) → length (b ∷ rest) ≡ m → Bytes rest → e < 2 ^ 8
@@ -82,7 +82,7 @@ module _ (d l : ℕ) (low : l < 2 ^ d) (wide : 8 ≤ d) where
       (sym (rem-xor d l low (b * 2 ^ (8 * m)) next)
       ∙ ap (rem d l) (xor-shifted b (8 * m) next fits ∙ sym whole)
       ∙ rem-shift d l low 8 (number (b ∷ rest)) e h
-      ∙ sym (pushed-reduced (rem d l (number (b ∷ rest))) e h))
+      ∙ sym (grown-reduced (rem d l (number (b ∷ rest))) e h))
 
   -- the same in a log, from offset q to the next
   pub slide-log : (m : ℕ) (log : List ℕ) → Bytes log → (q : ℕ) → q + m < length log → 0 < m
@@ -98,6 +98,28 @@ module _ (d l : ℕ) (low : l < 2 ^ d) (wide : 8 ≤ d) where
       (bytes-take k after (bytes-drop (suc q) log bytes)) (bytes-drop (suc q) log bytes k)
       ∙ ap₂ (λ (w : List ℕ) (e : ℕ). rolled d l (suc k) (signature d l w) (getD log q 0) e)
       (sym (ap (take (suc k)) (drop-cons log q 0 (omega arith)))) enters
+
+-- a byte enters by shifts and masks in a word of w bits: the e low digits move up by 8, and x stands for those above them
+pub grown-by-shifts : (e l w : ℕ) → l < 2 ^ (e + 8) → e + 8 ≤ w → (s b x : ℕ) → b < 2 ^ 8 → x ≡ rem (e + 8) l (s / 2 ^ e * 2 ^ (e + 8))
+    → bitXor (bitOr (bitAnd s (2 ^ e - 1) * 2 ^ 8 % 2 ^ w) b) x ≡ grown (e + 8) l s b
+grown-by-shifts e l w low fits s b x hb is-x =
+    let masked : bitAnd s (2 ^ e - 1) * 2 ^ 8 % 2 ^ w ≡ s % 2 ^ e * 2 ^ 8 =
+        ap (λ (n : ℕ). n * 2 ^ 8 % 2 ^ w) (and-mask s e) ∙ shl-exact e 8 w (mod-lt s (pow-pos e)) fits in
+    ap₂ bitXor (ap (λ (n : ℕ). bitOr n b) masked ∙ or-shifted (s % 2 ^ e) 8 b hb) is-x
+    ∙ xor-comm (s % 2 ^ e * 2 ^ 8 + b) (rem (e + 8) l (s / 2 ^ e * 2 ^ (e + 8)))
+    ∙ sym (rem-by-top e 8 l low s b hb)
+    ∙ sym (grown-reduced (e + 8) l low (omega arith) s b hb)
+
+-- of the 48 bytes at an offset, those before the i-th give s: with the i-th they give r
+pub push-grows : (log : List ℕ) → Bytes log → (q i : ℕ) → q + i < length log → (s r : ℕ) → s ≡ signatureOf (take i (drop q log))
+    → r ≡ grown degree lowPart s (getD log (q + i) 0) → r ≡ signatureOf (take (i + 1) (drop q log))
+unfolding signatureOf
+push-grows log bytes q i h s r is-s is-r =
+    let long : i < length (drop q log) = simp length-drop (omega arith) in
+    is-r
+    ∙ ap₂ (λ (x e : ℕ). grown degree lowPart x e) is-s (sym (getD-drop q log i 0))
+    ∙ sym (signature-snoc degree lowPart (lit< tt) (lit≤ tt) (take i (drop q log)) (getD (drop q log) i 0) (bytes-drop q log bytes i))
+    ∙ ap (signature degree lowPart) (sym (ap (λ (k : ℕ). take k (drop q log)) (add-one i) ∙ take-suc (drop q log) i 0 long))
 
 -- rolled over the bytes log[q] and log[q + 48], the signature of the window at q is that of the window at q + 1
 pub roll-slides : (log : List ℕ) → Bytes log → (q : ℕ) → q + 48 < length log → (s r : ℕ) → s ≡ signatureOf (window log q)

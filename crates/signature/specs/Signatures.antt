@@ -15,12 +15,12 @@ unfoldable pub signature : ℕ → ℕ → List ℕ → ℕ
 signature d l bytes = rem d l (number bytes)
 
 -- one byte e more: the signature s multiplied by x^8 and reduced, and the new byte added without carry
-unfoldable pub pushed : ℕ → ℕ → ℕ → ℕ → ℕ
-pushed d l s e = bitXor (rem d l (s * 2 ^ 8)) e
+unfoldable pub grown : ℕ → ℕ → ℕ → ℕ → ℕ
+grown d l s e = bitXor (rem d l (s * 2 ^ 8)) e
 
 -- rolled on by one byte over m bytes: e enters, and the leaving byte b times x^(8m), reduced, is taken away
 unfoldable pub rolled : ℕ → ℕ → ℕ → ℕ → ℕ → ℕ → ℕ
-rolled d l m s b e = bitXor (pushed d l s e) (rem d l (b * 2 ^ (8 * m)))
+rolled d l m s b e = bitXor (grown d l s e) (rem d l (b * 2 ^ (8 * m)))
 
 -- the polynomial is x^31 + x^3 + 1
 abbrev pub degree : ℕ
