@@ -1,2 +1,3 @@
-pub mod Over
 pub mod Last
+pub mod Over
+pub mod Tables
