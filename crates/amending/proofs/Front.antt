@@ -20,11 +20,11 @@ pub data Front (s : ℕ) : List ℕ → List ℕ → List ℕ → Type 0 where
   kept : {x y : ℕ} {l f p : List ℕ} → x ≤ s → Front s (y ∷ l) f p → Front s (x ∷ y ∷ l) (x ∷ f) p
 
 module _ (s : ℕ) where
-  one-kept : (x y : ℕ) (l : List ℕ) → x ≤ s → frontCount s (x ∷ y ∷ l) ≡ suc (frontCount s (y ∷ l))
+  pub one-kept : (x y : ℕ) (l : List ℕ) → x ≤ s → frontCount s (x ∷ y ∷ l) ≡ suc (frontCount s (y ∷ l))
   unfolding frontCount
   one-kept x y l h = rw (le-leb x s h, frontCount)
 
-  none-kept : (x y : ℕ) (l : List ℕ) → s < x → frontCount s (x ∷ y ∷ l) ≡ 0
+  pub none-kept : (x y : ℕ) (l : List ℕ) → s < x → frontCount s (x ∷ y ∷ l) ≡ 0
   unfolding frontCount
   none-kept x y l h = rw (lt-leb x s h, frontCount)
 

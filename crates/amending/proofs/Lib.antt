@@ -8,3 +8,5 @@ pub mod Steps
 pub mod Told
 pub mod Chained
 pub mod Stretch
+pub mod Places
+pub mod Edits
