@@ -129,6 +129,6 @@ roll-slides log bytes q h s r is-s is-r =
     is-r ∙ ap (λ (x : ℕ). rolled degree lowPart span x (getD log q 0) (getD log (q + span) 0)) is-s
     ∙ sym (slide-log degree lowPart (lit< tt) (lit≤ tt) span log bytes q h (lit< tt))
 
-pub signature-lt : (bytes : List ℕ) → signatureOf bytes < 2 ^ degree
+pub signature-lt : (bytes : List ℕ) {s : ℕ} → s ≡ signatureOf bytes → s < 2 ^ degree
 unfolding signatureOf signature
-signature-lt bytes = rem-lt degree lowPart (lit< tt) (number bytes)
+signature-lt bytes is-s = subst (λ (x : ℕ). x < 2 ^ degree) (sym is-s) (rem-lt degree lowPart (lit< tt) (number bytes))
