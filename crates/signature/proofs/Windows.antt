@@ -1,6 +1,6 @@
 -- The signature of a run of bytes when a byte enters, and when a window slides: over any degree d from 8 on, any low part and
 -- any length of the window. At the end the window of 48 bytes, in the form that a search through a log cites.
-use mathlib.Core.Path.{_≡_, refl, sym, ap, ap₂, subst, _∙_}
+use mathlib.Core.Path.{_≡_, sym, ap, ap₂, subst, _∙_}
 use mathlib.Core.List.{List, [], _∷_, _++_}
 use Prim.Native.Nat.{ℕ, zero, suc, _+_, _-_, _*_, _/_, _%_, _^_, _≤_, _<_}
 use native.Mathlib.Nat.{mul-suc, mul-comm, le-of-lt, mod-lt, lt-of-lt-of-le, not-suc-le-zero}

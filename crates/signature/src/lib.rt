@@ -1,5 +1,5 @@
 // The signature of 48 bytes: read as one binary polynomial, and its remainder by x^31 + x^3 + 1. How it grows by a byte, and how
-// it rolls on by one over a log.
+// it rolls on by one over a log. What requires the tables or a whole window is for the crates that cut, and is not exported.
 ghost use mathlib.Core.Path.{_≡_};
 ghost use Prim.Native.Nat.{_+_, _≤_, _<_, _^_};
 ghost use lib.ListN.{length};
