@@ -10,3 +10,4 @@ pub mod Chained
 pub mod Stretch
 pub mod Places
 pub mod Edits
+pub mod Looking
