@@ -8,28 +8,28 @@ use borrow.Author.Tests.{le-leb, lt-leb, eq-eqb, ne-eqb, leb-true, eqb-true}
 use Rattle.laws.proofs.Cases.{both-true}
 use Rattle.amending.specs.Answers.{editFits}
 
-module _ (n s d e length : ℕ) where
-  pub edit-told : editFits n s d e length ≡ true → (s + d ≤ n) × (n + e ≡ length + d)
+module _ (n s d e bytes : ℕ) where
+  pub edit-told : editFits n s d e bytes ≡ true → (s + d ≤ n) × (n + e ≡ bytes + d)
   unfolding editFits
   edit-told ok =
       let a = both-true ok in
       let b = both-true (a .1) in
       let low : s ≤ n = leb-true s n (a .0) in
       let fits : d ≤ n - s = leb-true d (n - s) (b .0) in
-      let is : length ≡ n - d + e = eqb-true length (n - d + e) (b .1) in
+      let is : bytes ≡ n - d + e = eqb-true bytes (n - d + e) (b .1) in
       omega arith
 
   module _ (low : s ≤ n) (fits : d ≤ n - s) where
-    pub edit-passes : e ≤ length → length - e ≡ n - d → editFits n s d e length ≡ true
+    pub edit-passes : e ≤ bytes → bytes - e ≡ n - d → editFits n s d e bytes ≡ true
     unfolding editFits
-    edit-passes h k = let is : length ≡ n - d + e = omega arith in rw (le-leb s n low, le-leb d (n - s) fits, eq-eqb length (n - d + e) is)
+    edit-passes h k = let is : bytes ≡ n - d + e = omega arith in rw (le-leb s n low, le-leb d (n - s) fits, eq-eqb bytes (n - d + e) is)
 
-    edit-fails : (length ≡ n - d + e → ⊥) → editFits n s d e length ≡ false
+    edit-fails : (bytes ≡ n - d + e → ⊥) → editFits n s d e bytes ≡ false
     unfolding editFits
-    edit-fails other = rw (le-leb s n low, le-leb d (n - s) fits, ne-eqb length (n - d + e) other)
+    edit-fails other = rw (le-leb s n low, le-leb d (n - s) fits, ne-eqb bytes (n - d + e) other)
 
-    pub edit-over : length < e → editFits n s d e length ≡ false
+    pub edit-over : bytes < e → editFits n s d e bytes ≡ false
     edit-over h = edit-fails (λ is. omega arith)
 
-    pub edit-other : e ≤ length → (length - e ≡ n - d → ⊥) → editFits n s d e length ≡ false
+    pub edit-other : e ≤ bytes → (bytes - e ≡ n - d → ⊥) → editFits n s d e bytes ≡ false
     edit-other h other = edit-fails (λ is. other (omega arith))

@@ -9,5 +9,7 @@ pub mod Told
 pub mod Chained
 pub mod Stretch
 pub mod Places
+pub mod Copying
 pub mod Edits
 pub mod Looking
+pub mod Recuts

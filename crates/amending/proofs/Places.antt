@@ -1,19 +1,15 @@
--- Lists read place by place: the entries before a test passes, the front's count, the last entry, and a copy that grows by one entry.
-use Prim.Native.Nat.{ℕ, zero, suc, _+_, _-_, _^_, _≤_, _<_}
-use mathlib.Core.Path.{_≡_, refl, sym, ap, _∙_, subst}
+-- Lists read place by place: the entries before a test passes, the front's count, the last of the first entries.
+use Prim.Native.Nat.{ℕ, zero, suc, _+_, _-_, _≤_, _<_}
+use mathlib.Core.Path.{_≡_, refl, sym, ap, _∙_}
 use mathlib.Core.Bool.{Bool, true, false}
-use mathlib.Core.List.{List, [], _∷_, _++_, map}
+use mathlib.Core.List.{List, [], _∷_, _++_}
 use native.Mathlib.Omega.{arith}
 use native.Mathlib.Numerals.{add-one}
-use lib.ListN.{length, getD, take, drop, set, length-drop, length-map, length-take, drop-of-length-le}
-use lib.Seq.{drop-cons, take-suc, getD-drop, getD-take, length-take-le}
+use lib.ListN.{length, getD, take, drop, length-drop, drop-of-length-le}
+use lib.Seq.{drop-cons}
 use Rattle.laws.specs.Last.{lastOr}
-use Rattle.laws.specs.Over.{overFrom}
-use Rattle.laws.proofs.Writing.{overFrom-more, length-overFrom}
-use Rattle.lists.specs.WellFormed.{lengthOf}
-use Rattle.amending.specs.Parts.{frontCount, before, since, moved}
-use Rattle.amending.specs.Told.{Each, none, and-each}
-use Rattle.amending.specs.Inner.{Movable}
+use Rattle.laws.proofs.Cases.{by-lt}
+use Rattle.amending.specs.Parts.{frontCount, before}
 use Rattle.amending.proofs.Front.{one-kept, none-kept}
 
 -- climbing while a test fails: the places passed and those still to pass make up the total
@@ -62,58 +58,18 @@ module _ (s : ℕ) (l : List ℕ) (i total : ℕ) (so-far : total ≡ i + frontC
       few (x ∷ []) h = unfold frontCount in refl
       few (x ∷ y ∷ r) h = absurd (omega arith)
 
-pub last-at : (c x : ℕ) (l : List ℕ) → lastOr c (x ∷ l) ≡ getD (x ∷ l) (length l) 0
+-- the last of the first entries
+pub last-none : (count : ℕ) (l : List ℕ) → count ≡ 0 → lastOr 0 (take count l) ≡ 0
+last-none count l e = ap (λ k. lastOr 0 (take k l)) e ∙ (unfold lastOr in refl)
+
+last-at : (c : ℕ) (l : List ℕ) (k : ℕ) → k < length l → lastOr c (take (suc k) l) ≡ getD l k 0
 unfolding lastOr
-last-at c x [] = refl
-last-at c x (y ∷ l) = last-at x y l
+last-at c [] k h = absurd (omega arith)
+last-at c (x ∷ l) zero h = refl
+last-at c (x ∷ l) (suc k) h = last-at x l k (omega arith)
 
-pub length-none : (l : List ℕ) → length l ≡ 0 → lengthOf l ≡ 0
-unfolding lengthOf lastOr
-length-none [] h = refl
-length-none (x ∷ l) h = absurd (omega arith)
-
-pub length-at : (l : List ℕ) → 0 < length l → lengthOf l ≡ getD l (length l - 1) 0
-unfolding lengthOf
-length-at [] h = absurd (omega arith)
-length-at (x ∷ l) h = let at : suc (length l) - 1 ≡ length l = omega arith in rw at (last-at 0 x l)
-
-pub each-at : {P : ℕ → Type 0} {l : List ℕ} (i : ℕ) → i < length l → Each P l → P (getD l i 0)
-each-at i h none = absurd (omega arith)
-each-at zero h (and-each p r) = p
-each-at (suc i) h (and-each p r) = each-at i (omega arith) r
-
-map-joined : (f : ℕ → ℕ) (l k : List ℕ) → map f (l ++ k) ≡ map f l ++ map f k
-map-joined f [] k = refl
-map-joined f (x ∷ l) k = ap (λ r. f x ∷ r) (map-joined f l k)
-
--- one entry more of the old list, copied
-module _ (old b : List ℕ) (from at i d e : ℕ) where
-  pub copied-length : from + i ≤ length old → length (map (moved d e) (take i (drop from old))) ≡ i
-  copied-length h = length-map (take i (drop from old)) (moved d e) ∙ length-take-le i (drop from old) (rw length-drop (omega arith))
-
-  pub one-copied : from + i < length old → at + i < length b
-      → set (overFrom at (map (moved d e) (take i (drop from old))) b) (at + i) (getD old (from + i) 0 + e - d) ≡ overFrom at (map (moved d e) (take (i + 1) (drop from old))) b
-  unfolding moved
-  one-copied inside room =
-      let done : List ℕ = map (moved d e) (take i (drop from old)) in
-      let size : length done ≡ i = copied-length (omega arith) in
-      let place : i < length (drop from old) = rw length-drop (omega arith) in
-      ap (λ j. set (overFrom at done b) (at + j) (getD old (from + i) 0 + e - d)) (sym size)
-      ∙ overFrom-more at done b (getD old (from + i) 0 + e - d) (omega arith)
-      ∙ ap (λ l. overFrom at l b)
-      (ap (λ y. done ++ ((y + e - d) ∷ [])) (sym (getD-drop from old i 0))
-      ∙ sym (map-joined (moved d e) (take i (drop from old)) (getD (drop from old) i 0 ∷ []))
-      ∙ ap (map (moved d e)) (sym (take-suc (drop from old) i 0 place) ∙ ap (λ j. take j (drop from old)) (sym (add-one i))))
-
-  pub copied-room : (list : List ℕ) → list ≡ overFrom at (map (moved d e) (take i (drop from old))) b → from + i ≤ length old → at + i ≤ length b
-      → length list ≡ length b
-  copied-room list is inside room =
-      let size : length (map (moved d e) (take i (drop from old))) ≡ i = copied-length inside in
-      ap length is ∙ length-overFrom at (map (moved d e) (take i (drop from old))) b (omega arith)
-
-  pub movable-at : (count : ℕ) → i < count → from + count ≤ length old → Movable d e (take count (drop from old))
-      → (d ≤ getD old (from + i) 0 + e) × (getD old (from + i) 0 + e < 2 ^ 64)
-  movable-at count below inside each =
-      let size : length (take count (drop from old)) ≡ count = length-take-le count (drop from old) (rw length-drop (omega arith)) in
-      let same : getD (take count (drop from old)) i 0 ≡ getD old (from + i) 0 = getD-take count (drop from old) i 0 below ∙ getD-drop from old i 0 in
-      subst (λ x. (d ≤ x + e) × (x + e < 2 ^ 64)) same (each-at i (omega arith) each)
+pub last-taken : (count : ℕ) (l : List ℕ) → (count ≡ 0 → ⊥) → count ≤ length l → lastOr 0 (take count l) ≡ getD l (count - 1) 0
+last-taken count l some h =
+    let positive : 0 < count = by-lt 0 count (λ k. k) (λ k. absurd (some (omega arith))) in
+    let is : count ≡ suc (count - 1) = omega arith in
+    ap (λ k. lastOr 0 (take k l)) is ∙ last-at 0 l (count - 1) (omega arith)
