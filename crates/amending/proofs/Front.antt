@@ -5,7 +5,7 @@ use mathlib.Core.Bool.{Bool, true, false}
 use mathlib.Core.List.{List, [], _∷_, _++_}
 use native.Mathlib.Omega.{arith}
 use lib.Dec.{leb}
-use lib.ListN.{take, drop}
+use lib.ListN.{length, take, drop}
 use borrow.Author.Tests.{le-leb, lt-leb}
 use Rattle.laws.proofs.Cases.{by-lt}
 use Rattle.laws.specs.Last.{lastOr}
@@ -36,6 +36,15 @@ module _ (s : ℕ) where
       by-lt s x
       (λ h. rw (none-kept x y l h) (beyond h))
       (λ h. rw (one-kept x y l h) (kept h (counted (y ∷ l))))
+
+  pub count-fits : (l : List ℕ) → frontCount s l ≤ length l
+  unfolding frontCount
+  count-fits [] = omega arith
+  count-fits (x ∷ []) = omega arith
+  count-fits (x ∷ y ∷ l) =
+      by-lt s x
+      (λ h. rw (none-kept x y l h) (omega arith))
+      (λ h. rw (one-kept x y l h) (omega (arith, count-fits (y ∷ l))))
 
   pub front-is : (old : List ℕ) → Front s old (front s old) (pastFront s old)
   unfolding front pastFront

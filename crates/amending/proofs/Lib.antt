@@ -13,3 +13,4 @@ pub mod Copying
 pub mod Edits
 pub mod Looking
 pub mod Recuts
+pub mod Written

@@ -14,7 +14,7 @@ use Rattle.amending.specs.Parts.{before, since, wasAt, meets}
 use Rattle.amending.specs.Told.{Each, none, and-each}
 use Rattle.amending.specs.Inner.{Ascends, nothing-more, higher, Looked}
 use Rattle.amending.proofs.Split.{Split, here, split, joined, heads, since-is}
-use Rattle.amending.proofs.Told.{each-so, each-before}
+use Rattle.amending.proofs.Told.{each-so, each-before, ascends-above}
 
 -- entries that fail a test are skipped
 pub since-skips : (test : ℕ → Bool) {p : List ℕ} (r : List ℕ) → Each (λ x. test x ≡ false) p → since test (p ++ r) ≡ since test r
@@ -36,10 +36,6 @@ climbed-within test l k r h e =
     let parts : length (before test (drop k l)) + length (since test (drop k l)) ≡ length l - k =
     sym (length-append (before test (drop k l)) (since test (drop k l))) ∙ ap length (joined (split test (drop k l))) ∙ length-drop k l in
     omega arith
-
-pub ascends-above : {b : ℕ} {l : List ℕ} → Ascends b l → Each (λ x. b < x) l
-ascends-above nothing-more = none
-ascends-above {b} (higher {x = x} up rest) = and-each up (each-so (λ y (h : x < y). omega arith) (ascends-above rest))
 
 pub ascends-after : {b x : ℕ} {k : List ℕ} (l : List ℕ) (r : ℕ) → Ascends b l → drop r l ≡ x ∷ k → Ascends x k
 ascends-after [] r nothing-more is = absurd (let z : _≡_ {A = ℕ} 0 1 = cc (drop-nil {A = ℕ} r) in omega arith)

@@ -18,8 +18,8 @@ use Rattle.amending.specs.Told.{Each, none, and-each}
 use Rattle.amending.specs.Inner.{Ascends, Looked, Recutted}
 use Rattle.amending.proofs.Split.{nowhere, here, later, split, before-is, since-is}
 use Rattle.amending.proofs.Meets.{placed}
-use Rattle.amending.proofs.Told.{each-so}
-use Rattle.amending.proofs.Looking.{ascends-above, ascends-after}
+use Rattle.amending.proofs.Told.{each-so, ascends-above}
+use Rattle.amending.proofs.Looking.{ascends-after}
 
 never : true ≡ false → ⊥
 never is = let z : _≡_ {A = ℕ} 0 1 = cc in omega arith

@@ -8,7 +8,8 @@ use lib.Dec.{leb, ltb}
 use borrow.Author.Tests.{leb-true, ltb-true, le-leb, lt-ltb}
 use Rattle.laws.proofs.Cases.{both-true}
 use Rattle.laws.specs.Last.{lastOr}
-use Rattle.lists.specs.WellFormed.{stepFits, isEmpty, stepsFit, wellFormed, lengthOf}
+use Rattle.lists.specs.WellFormed.{stepFits, isEmpty, stepsFit}
+use Rattle.amending.specs.Inner.{Ascends, nothing-more, higher}
 
 -- from before, steps from minimum to maximum reach m
 pub data Steps (lo hi : ℕ) : ℕ → List ℕ → ℕ → Type 0 where
@@ -20,6 +21,12 @@ pub data Reaches (lo hi : ℕ) : ℕ → List ℕ → ℕ → Type 0 where
   there : {b : ℕ} → Reaches lo hi b [] b
   last-step : {b x : ℕ} → b < x → x ≤ b + hi → Reaches lo hi b (x ∷ []) x
   full-step : {b x y m : ℕ} {l : List ℕ} → b + lo ≤ x → x ≤ b + hi → Reaches lo hi x (y ∷ l) m → Reaches lo hi b (x ∷ y ∷ l) m
+
+-- a well-formed list rises
+pub ascends : {lo hi b m : ℕ} {l : List ℕ} → 0 < lo → Reaches lo hi b l m → Ascends b l
+ascends positive there = nothing-more
+ascends positive (last-step up near) = higher up nothing-more
+ascends positive (full-step {b = b} {x = x} far near more) = let up : b < x = omega arith in higher up (ascends positive more)
 
 module _ (lo hi : ℕ) where
   step-told : (last : Bool) (b x : ℕ) → stepFits lo hi last b x ≡ true → (b < x) × (x ≤ b + hi) × (last ≡ false → b + lo ≤ x)

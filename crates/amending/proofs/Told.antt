@@ -10,9 +10,10 @@ use Rattle.laws.specs.Last.{lastOr}
 use Rattle.lists.specs.WellFormed.{isEmpty, wellFormed, lengthOf}
 use Rattle.amending.specs.Parts.{front, pastFront, before, since, wasAt, meets, moved, backFrom}
 use Rattle.amending.specs.Told.{Each, none, and-each, FrontTold, NoMeeting, Recut, meeting, no-meeting}
+use Rattle.amending.specs.Inner.{Ascends, nothing-more, higher}
 use Rattle.amending.proofs.Split.{Split, nowhere, here, later, split, joined, heads}
 use Rattle.amending.proofs.Front.{Front, none-old, old-end, beyond, kept, front-is, front-joined}
-use Rattle.amending.proofs.Steps.{Reaches, there, last-step, full-step, reaches, reaches-up}
+use Rattle.amending.proofs.Steps.{Reaches, there, last-step, full-step, reaches, reaches-up, ascends}
 use Rattle.amending.proofs.Meets.{placed}
 
 pub each-so : {P Q : ℕ → Type 0} {l : List ℕ} → ((x : ℕ) → P x → Q x) → Each P l → Each Q l
@@ -24,14 +25,12 @@ each-before nowhere = none
 each-before (here e) = none
 each-before (later e s) = and-each e (each-before s)
 
-module _ (lo hi : ℕ) (positive : 0 < lo) where
-  pub each-above : {b m : ℕ} {l : List ℕ} → Reaches lo hi b l m → Each (λ x. b < x) l
-  each-above there = none
-  each-above (last-step up near) = and-each up none
-  each-above (full-step {b = b} {x = x} far near more) =
-      let up : b < x = omega arith in
-      and-each up (each-so (λ y (h : x < y). omega arith) (each-above more))
+-- each entry of a list that rises from b is above b
+pub ascends-above : {b : ℕ} {l : List ℕ} → Ascends b l → Each (λ x. b < x) l
+ascends-above nothing-more = none
+ascends-above {b} (higher {x = x} up rest) = and-each up (each-so (λ y (h : x < y). omega arith) (ascends-above rest))
 
+module _ (lo hi : ℕ) (positive : 0 < lo) where
   front-low : {s b m : ℕ} {l f p : List ℕ} → Front s l f p → Reaches lo hi b l m → Each (λ x. (x ≤ s) × (x < m)) f
   front-low none-old r = none
   front-low old-end r = none
@@ -46,7 +45,7 @@ module _ (lo hi : ℕ) (positive : 0 < lo) where
   past-high none-old r = none
   past-high old-end (last-step up near) = and-each (λ h. refl) none
   past-high {s} {m = m} (beyond {x = x} h) (full-step far near more) =
-      and-each (λ (k : x ≤ s). absurd (omega arith)) (each-so (λ y (up : x < y) (k : y ≤ s). absurd (omega arith)) (each-above more))
+      and-each (λ (k : x ≤ s). absurd (omega arith)) (each-so (λ y (up : x < y) (k : y ≤ s). absurd (omega arith)) (ascends-above (ascends positive more)))
   past-high (kept h f) (full-step far near more) = past-high f more
 
   pub front-told : (s : ℕ) (old : List ℕ) → wellFormed lo hi old ≡ true → FrontTold s old (front s old) (pastFront s old)

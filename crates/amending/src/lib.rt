@@ -192,3 +192,76 @@ fn recut(
         full: false,
     }
 }
+
+// Writes the three parts, one after the other.
+fn write_parts(
+    settings: Settings,
+    old: &[u64],
+    s: u64,
+    d: u64,
+    e: u64,
+    log: &[u8],
+    list: &mut [u64],
+) -> Amendment
+    requires { ⌜ (inRange settings ≡ true) × (wellFormed (settings .minimum) (settings .maximum) (now old) ≡ true) ⌝ }
+    requires { ⌜ (editFits (lengthOf (now old)) s d e (length (now log)) ≡ true) × (length (now log) ≤ longest) ⌝ }
+    ensures { λ r. ⌜ r ≡ partsAnswer (newCutsOf settings (now (log .entry))) (now (old .entry)) s d e (length (now (list .entry))) ⌝ }
+    ensures { λ r. ⌜ now (list .exit) ≡ writtenList (amendedList (newCutsOf settings (now (log .entry))) (now (old .entry)) s d e) (now (list .entry)) ⌝ }
+{
+    let kept = front_count(s, old);
+    copy_moved(old, 0, kept, 0, 0, list, 0);
+    if kept > list.len() {
+        return Amendment::Refused(Refusal::ListFull);
+    }
+    let from = last_of(old, kept) as usize;
+    let made = recut(settings, old, kept, from, s, d, e, log, list);
+    if made.full {
+        return Amendment::Refused(Refusal::ListFull);
+    }
+    let count = made.count;
+    let place = made.place;
+    let left = old.len() - place;
+    copy_moved(old, place, left, d, e, list, kept + count);
+    if left > list.len() - (kept + count) {
+        return Amendment::Refused(Refusal::ListFull);
+    }
+    Amendment::Amended {
+        front: kept as u64,
+        recut: count as u64,
+        back: left as u64,
+    }
+}
+
+// The list of the new log, from the old log's list.
+pub fn amend(
+    settings: Settings,
+    old: &[u64],
+    s: u64,
+    d: u64,
+    e: u64,
+    log: &[u8],
+    list: &mut [u64],
+) -> Amendment
+    ensures { λ r. ⌜ r ≡ amendAnswer settings (now (old .entry)) s d e (now (log .entry)) (length (now (list .entry))) ⌝ }
+    ensures { λ r. ⌜ now (list .exit) ≡ amendList settings (now (old .entry)) s d e (now (log .entry)) (now (list .entry)) ⌝ }
+{
+    if !settings.in_range() {
+        return Amendment::Refused(Refusal::SettingsOutOfRange);
+    }
+    if !lists::well_formed(settings.minimum, settings.maximum, old) {
+        return Amendment::Refused(Refusal::ListNotWellFormed);
+    }
+    let bytes = log.len() as u64;
+    if !edit_fits(last_of(old, old.len()), s, d, e, bytes) {
+        return Amendment::Refused(Refusal::EditOutOfRange);
+    }
+    if bytes > terms::LONGEST {
+        return Amendment::Refused(Refusal::LogTooLong);
+    }
+    let minimum = settings.minimum;
+    let places = list.len() as u64;
+    if places < bytes / minimum + 1 {
+        return Amendment::Refused(Refusal::RoomTooShort);
+    }
+    write_parts(settings, old, s, d, e, log, list)
+}
