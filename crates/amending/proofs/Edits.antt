@@ -1,11 +1,16 @@
 -- The test of an edit: what the code sees without wrapping, and what a test that passed says.
 use Prim.Native.Nat.{ℕ, _+_, _-_, _≤_, _<_}
-use mathlib.Core.Path.{_≡_, refl, sym, _∙_}
+use mathlib.Core.Path.{_≡_, refl, sym, ap, _∙_}
 use mathlib.Core.Bool.{Bool, true, false, _&&_}
+use mathlib.Core.List.{List}
 use native.Mathlib.Omega.{arith}
 use lib.Dec.{leb, eqb}
+use lib.ListN.{length, take}
+use lib.Seq.{take-length}
 use borrow.Author.Tests.{le-leb, lt-leb, eq-eqb, ne-eqb, leb-true, eqb-true}
 use Rattle.laws.proofs.Cases.{both-true}
+use Rattle.laws.specs.Last.{lastOr}
+use Rattle.lists.specs.WellFormed.{lengthOf}
 use Rattle.amending.specs.Answers.{editFits}
 
 module _ (n s d e bytes : ℕ) where
@@ -33,3 +38,9 @@ module _ (n s d e bytes : ℕ) where
 
     pub edit-other : e ≤ bytes → (bytes - e ≡ n - d → ⊥) → editFits n s d e bytes ≡ false
     edit-other h other = edit-fails (λ is. other (omega arith))
+
+-- the test as the code asks it, the old length being the last of all entries
+pub edit-asked : (r : Bool) (n s d e bytes : ℕ) (old : List ℕ) → r ≡ editFits n s d e bytes → n ≡ lastOr 0 (take (length old) old)
+    → r ≡ editFits (lengthOf old) s d e bytes
+unfolding lengthOf
+edit-asked r n s d e bytes old told is = told ∙ ap (λ m. editFits m s d e bytes) (is ∙ ap (lastOr 0) (take-length old))

@@ -220,9 +220,10 @@ fn write_parts(
     }
     let count = made.count;
     let place = made.place;
+    let at = kept + count;
     let left = old.len() - place;
-    copy_moved(old, place, left, d, e, list, kept + count);
-    if left > list.len() - (kept + count) {
+    copy_moved(old, place, left, d, e, list, at);
+    if left > list.len() - at {
         return Amendment::Refused(Refusal::ListFull);
     }
     Amendment::Amended {
