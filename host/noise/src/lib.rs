@@ -57,6 +57,30 @@ impl Noise {
         self.fill(&mut bytes);
         bytes
     }
+
+    /// A log of that many bytes, of one of the kinds that try a cutter: random, one byte throughout, a short run over and
+    /// over, few bytes that are not 0, or random with a stretch of zeros.
+    pub fn log(&mut self, length: usize) -> Vec<u8> {
+        match self.below(6) {
+            0 => vec![self.number() as u8; length],
+            1 => {
+                let run = self.between(1, 100) as usize;
+                self.bytes(run).into_iter().cycle().take(length).collect()
+            }
+            2 => {
+                let gap = self.between(1, 200);
+                (0..length).map(|_| u8::from(self.once_in(gap))).collect()
+            }
+            3 => {
+                let mut log = self.bytes(length);
+                let start = self.between(0, length as u64) as usize;
+                let end = self.between(start as u64, length as u64) as usize;
+                log[start..end].fill(0);
+                log
+            }
+            _ => self.bytes(length),
+        }
+    }
 }
 
 #[cfg(test)]
@@ -85,6 +109,8 @@ mod tests {
             assert!((5..=6).contains(&noise.between(5, 6)));
             noise.between(0, u64::MAX);
             assert!([2, 4].contains(&noise.pick(&[2, 4])));
+            let length = noise.below(500) as usize;
+            assert_eq!(noise.log(length).len(), length);
         }
     }
 }
