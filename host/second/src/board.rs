@@ -52,7 +52,7 @@ pub fn record(settings: &Settings, n: u64, marks: &[u64], size: u64, index: u64)
     Record { marker, offsets: until.chain(then).collect() }
 }
 
-/// A record put into its bay: (number, entries written, bay). Where it is longer than the bay: 6.
+/// A record put into its bay of at least 2 entries: (number, entries written, bay). Where it is longer than the bay: 6.
 pub fn fill_bay(record: &Record, bay: &[u64]) -> (u32, u64, Vec<u64>) {
     let room = bay.len() - 2;
     let count = record.offsets.len();
