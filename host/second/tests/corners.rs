@@ -227,7 +227,8 @@ fn each_way_to_be_malformed() {
     assert_eq!(number(&[]), 0);
     assert_eq!(number(&[(4, 4)]), 9, "more offsets than the bay holds");
     assert_eq!(number(&[(4, u64::MAX)]), 9);
-    assert_eq!(number(&[(6, 260)]), 9, "not rising");
+    assert_eq!(number(&[(5, 0), (6, 260)]), 9, "twice the same");
+    assert_eq!(number(&[(5, 0), (6, 280)]), 9, "falling");
     assert_eq!(number(&[(5, 0), (6, 150)]), 9, "before the segment");
     assert_eq!(number(&[(5, 0), (6, 151)]), 0);
     assert_eq!(number(&[(5, 0), (7, 300)]), 0);
