@@ -1,0 +1,39 @@
+-- `rows`: each call answers the number of the first row of its table that holds, and succeeds, with 0, where none does.
+use Prim.Native.Nat.{ℕ, _<_}
+use mathlib.Core.Path.{_≡_, refl, _∙_}
+use mathlib.Core.Bool.{Bool, true, false, not}
+use mathlib.Core.List.{List, [], _∷_}
+use lib.Dec.{leb, ltb}
+use lib.ListN.{length}
+use borrow.Author.Tests.{lt-leb, le-leb, lt-ltb, le-ltb}
+use Rattle.laws.proofs.Cases.{by-lt, by-test}
+use Rattle.terms.specs.declared.Settings.{Settings}
+use Rattle.terms.specs.Settings.{inRange}
+use Rattle.terms.specs.Answers.{answerNumber, unless, longest, roomFor}
+use Rattle.cutting.specs.Marks.{cutList}
+use Rattle.cutting.specs.WholeLog.{cutLogAnswer, writtenAnswer}
+use Rattle.promises.specs.Rows.{whether, firstRow, wholeLogRows}
+
+-- the row that a test guards holds where the test fails
+guarded : {A : Type 0} (number : A → ℕ) {refused answer : A} {k later : ℕ} (passes holds : Bool) → holds ≡ not passes
+    → number refused ≡ k → number answer ≡ later → number (unless passes refused answer) ≡ whether holds k later
+guarded number true holds e is-k others = others ∙ rw e
+guarded number false holds e is-k others = is-k ∙ rw e
+
+unless-not : {A : Type 0} (number : A → ℕ) {refused answer : A} {k later : ℕ} (passes : Bool)
+    → number refused ≡ k → number answer ≡ later → number (unless passes refused answer) ≡ whether (not passes) k later
+unless-not number passes = guarded number passes (not passes) refl
+
+unless-at-most : {A : Type 0} (number : A → ℕ) {refused answer : A} {k later : ℕ} (a b : ℕ)
+    → number refused ≡ k → number answer ≡ later → number (unless (leb a b) refused answer) ≡ whether (ltb b a) k later
+unless-at-most number a b =
+    guarded number (leb a b) (ltb b a)
+    (by-lt b a (λ h. rw (lt-ltb b a h, lt-leb a b h)) (λ h. rw (le-ltb b a h, le-leb a b h)))
+
+pub whole-log-rows : (s : Settings) (log : List ℕ) (room : ℕ) → answerNumber (cutLogAnswer s log room) ≡ firstRow (wholeLogRows s log room)
+unfolding answerNumber cutLogAnswer writtenAnswer wholeLogRows firstRow
+whole-log-rows s log room =
+    unless-not answerNumber (inRange s) refl
+    (unless-at-most answerNumber (length log) longest refl
+    (unless-at-most answerNumber (roomFor (s .minimum) (length log)) room refl
+    (unless-at-most answerNumber (length (cutList s log)) room refl refl)))
