@@ -1,12 +1,12 @@
 -- `rows`: each call answers the number of the first row of its table that holds, and succeeds, with 0, where none does.
-use Prim.Native.Nat.{ℕ, _<_}
+use Prim.Native.Nat.{ℕ}
 use mathlib.Core.Path.{_≡_, refl, _∙_}
 use mathlib.Core.Bool.{Bool, true, false, not}
-use mathlib.Core.List.{List, [], _∷_}
+use mathlib.Core.List.{List}
 use lib.Dec.{leb, ltb}
 use lib.ListN.{length}
 use borrow.Author.Tests.{lt-leb, le-leb, lt-ltb, le-ltb}
-use Rattle.laws.proofs.Cases.{by-lt, by-test}
+use Rattle.laws.proofs.Cases.{by-lt}
 use Rattle.terms.specs.declared.Settings.{Settings}
 use Rattle.terms.specs.Settings.{inRange}
 use Rattle.terms.specs.Answers.{answerNumber, unless, longest, roomFor}

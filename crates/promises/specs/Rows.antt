@@ -1,5 +1,5 @@
 -- The table of numbers, row by row, in the order that document 01 gives for each call.
-use Prim.Native.Nat.{ℕ, _+_}
+use Prim.Native.Nat.{ℕ}
 use mathlib.Core.Bool.{Bool, true, false, not}
 use mathlib.Core.List.{List, [], _∷_}
 use lib.Dec.{ltb}
