@@ -47,6 +47,12 @@ pub enum Refusal {
     ListFull,
 }
 
+// What a call answers that writes a list or bytes: how many it wrote, or why it is refused.
+pub enum Answer {
+    Wrote(u64),
+    Refused(Refusal),
+}
+
 impl Settings {
     // Whether every setting is within its range.
     pub fn in_range(self) -> bool

@@ -1,0 +1,121 @@
+-- Laws of big-endian numbers, over any width: lengths, one byte or one number more, and the round trip.
+use mathlib.Core.Path.{_≡_, refl, sym, ap, _∙_}
+use mathlib.Core.List.{List, [], _∷_, _++_, append-assoc}
+use Prim.Native.Nat.{ℕ, zero, suc, _+_, _-_, _*_, _/_, _%_, _^_, _≤_, _<_}
+use native.Mathlib.Omega.{arith}
+use native.Mathlib.Numerals.{add-one}
+use native.Mathlib.Nat.{add-assoc, add-comm, mul-suc, mul-zero, mul-assoc, mul-comm, add-mul, mod-one, min-le-left, lt-of-lt-of-le}
+use lib.Pow.{pow-add, pow-mono, mod-pow-add}
+use lib.ListN.{length, take, drop, getD, set, length-append, length-take, length-drop, List·getD-eq-default}
+use lib.Seq.{take-suc, length-take-le, getD-take, getD-drop, drop-drop}
+use lib.Arith.{digits-lt}
+use lib.Dec.{lit<}
+use Rattle.laws.proofs.Cases.{by-lt}
+use Rattle.laws.proofs.Writing.{overFrom-more}
+use Rattle.laws.specs.Over.{overFrom}
+use Rattle.sheet.specs.Numbers.{bigEndian, number, written, numbers, numbersOf, numberAt}
+
+-- a byte more is 256 times as many
+pub pow-byte : (k : ℕ) → 2 ^ (8 * suc k) ≡ 2 ^ (8 * k) * 256
+pow-byte k = rw (mul-suc, pow-add)
+
+pub length-bigEndian : (width n : ℕ) → length (bigEndian width n) ≡ width
+unfolding bigEndian
+length-bigEndian zero n = refl
+length-bigEndian (suc width) n = ap suc (length-bigEndian width n)
+
+-- the byte at a place is the number shifted by the bytes after it
+pub getD-bigEndian : (width n i : ℕ) → i < width → getD (bigEndian width n) i 0 ≡ n / 2 ^ (8 * (width - 1 - i)) % 256
+unfolding bigEndian
+getD-bigEndian zero n i h = absurd (omega arith)
+getD-bigEndian (suc width) n zero h = ap (λ (k : ℕ). n / 2 ^ (8 * k) % 256) (omega arith)
+getD-bigEndian (suc width) n (suc i) h =
+    let h′ : i < width = omega arith in
+    getD-bigEndian width n i h′ ∙ ap (λ (k : ℕ). n / 2 ^ (8 * k) % 256) (omega arith)
+
+-- the round trip: a number's low bytes stand for the number modulo their range
+pub number-bigEndian : (width n : ℕ) → number (bigEndian width n) ≡ n % 2 ^ (8 * width)
+unfolding bigEndian number
+number-bigEndian zero n = sym (mod-one n)
+number-bigEndian (suc width) n =
+    rw (length-bigEndian width n, number-bigEndian width n)
+    (sym (mod-pow-add n 8 (8 * width)) ∙ ap (λ (k : ℕ). n % 2 ^ k) (omega arith))
+
+-- one byte more
+pub number-more : (l : List ℕ) (b : ℕ) → number (l ++ (b ∷ [])) ≡ number l * 256 + b
+unfolding number
+number-more [] b = omega arith
+number-more (x ∷ l) b = digit (length (l ++ (b ∷ []))) (length l) (number (l ++ (b ∷ []))) (number l) (rw (length-append, add-one)) (number-more l b)
+  where
+    digit : (k k′ n n′ : ℕ) → k ≡ suc k′ → n ≡ n′ * 256 + b → x * 2 ^ (8 * k) + n ≡ (x * 2 ^ (8 * k′) + n′) * 256 + b
+    digit k k′ n n′ e f = rw (e, f, pow-byte) (simp (add-mul, mul-assoc, add-assoc))
+
+-- bytes stand for a number within their range
+pub number-lt : (l : List ℕ) → ((i : ℕ) → getD l i 0 < 256) → number l < 2 ^ (8 * length l)
+unfolding number
+number-lt [] h = lit< tt
+number-lt (x ∷ l) h = rw pow-byte (below x (number l) (2 ^ (8 * length l)) (h 0) (number-lt l (λ i. h (suc i))))
+  where
+    below : (x n p : ℕ) → x < 256 → n < p → x * p + n < p * 256
+    below x n p hx hn = rw (mul-comm p 256) (digits-lt hx hn)
+
+-- a part of bytes is of bytes
+pub part-bytes : (l : List ℕ) (place width : ℕ) → ((i : ℕ) → getD l i 0 < 256) → (i : ℕ) → getD (take width (drop place l)) i 0 < 256
+part-bytes l place width h i =
+    by-lt i width
+    (λ lt. rw (getD-take width (drop place l) i 0 lt, getD-drop) (h (place + i)))
+    (λ ge. rw (List·getD-eq-default (take width (drop place l)) 0 {n = i} (rw length-take (omega (arith, min-le-left width (length (drop place l)))))) (lit< tt))
+
+pub numberAt-lt : (l : List ℕ) (place width : ℕ) → place + width ≤ length l → ((i : ℕ) → getD l i 0 < 256) → numberAt place width l < 2 ^ (8 * width)
+unfolding numberAt
+numberAt-lt l place width fits h =
+    let size : length (take width (drop place l)) ≡ width = length-take-le width (drop place l) (rw length-drop (omega arith)) in
+    rw size at (number-lt (take width (drop place l)) (part-bytes l place width h))
+
+-- one byte more of the number at a place
+pub numberAt-more : (l : List ℕ) (place width : ℕ) → place + width < length l
+  → numberAt place (width + 1) l ≡ numberAt place width l * 256 + getD l (place + width) 0
+unfolding numberAt
+numberAt-more l place width h =
+    rw (add-one, take-suc (drop place l) width 0 (rw length-drop (omega arith)), number-more, getD-drop)
+
+-- a byte more keeps a number within its range, and eight bytes within 64 bits
+pub byte-more : {n b : ℕ} (k : ℕ) → n < 2 ^ (8 * k) → b < 256 → n * 256 + b < 2 ^ (8 * (k + 1))
+byte-more {n} {b} k hn hb = rw (add-one, pow-byte) (digits-lt hn hb)
+
+pub within-64 : {n : ℕ} (k : ℕ) → k ≤ 8 → n < 2 ^ (8 * k) → n < 2 ^ 64
+within-64 k h hn = lt-of-lt-of-le hn (pow-mono {i = 8 * k} {j = 64} (omega arith))
+
+-- one byte more of a number that is being written at a place
+pub byte-written : (width n place i : ℕ) (bytes : List ℕ) → i < width → place + width ≤ length bytes
+  → set (overFrom place (take i (bigEndian width n)) bytes) (place + i) (n / 2 ^ (8 * (width - 1 - i)) % 256)
+    ≡ overFrom place (take (i + 1) (bigEndian width n)) bytes
+byte-written width n place i bytes h room =
+    let l = take i (bigEndian width n) in
+    let size : length l ≡ i = length-take-le i (bigEndian width n) (rw length-bigEndian (omega arith)) in
+    let fits : i < length (bigEndian width n) = rw length-bigEndian h in
+    let more = overFrom-more place l bytes (n / 2 ^ (8 * (width - 1 - i)) % 256) (rw size (omega arith)) in
+    rw (size) at more ∙ rw (add-one, take-suc (bigEndian width n) i 0 fits, getD-bigEndian width n i h)
+
+pub length-written : (width : ℕ) (list : List ℕ) → length (written width list) ≡ width * length list
+unfolding written
+length-written width [] = rw mul-zero
+length-written width (n ∷ list) = rw (length-append, length-bigEndian, length-written width list, mul-suc) (add-comm width (width * length list))
+
+pub written-append : (width : ℕ) (l m : List ℕ) → written width (l ++ m) ≡ written width l ++ written width m
+unfolding written
+written-append width [] m = refl
+written-append width (n ∷ l) m = rw (written-append width l m, append-assoc)
+
+-- one number more
+pub numbers-more : (width count : ℕ) (bytes : List ℕ) → numbers width (suc count) bytes ≡ numbers width count bytes ++ (numberAt (width * count) width bytes ∷ [])
+unfolding numbers numberAt
+numbers-more width zero bytes = rw mul-zero
+numbers-more width (suc count) bytes =
+    ap (λ (r : List ℕ). number (take width bytes) ∷ r)
+    (numbers-more width count (drop width bytes) ∙ rw (drop-drop, mul-suc, add-comm width (width * count)))
+
+pub length-numbers : (width count : ℕ) (bytes : List ℕ) → length (numbers width count bytes) ≡ count
+unfolding numbers
+length-numbers width zero bytes = refl
+length-numbers width (suc count) bytes = ap suc (length-numbers width count (drop width bytes))
