@@ -6,7 +6,7 @@ use native.Mathlib.Omega.{arith}
 use native.Mathlib.Numerals.{add-one}
 use native.Mathlib.Nat.{zero-add, suc-add}
 use lib.ListN.{length, take, drop, set, length-append, length-drop, take-append-drop, drop-of-length-le}
-use lib.Seq.{drop-cons, set-append-seam, length-take-le, drop-drop, take-append-seam, drop-append-seam}
+use lib.Seq.{drop-cons, set-append-seam, length-take-le, drop-drop, take-append-seam, drop-append-seam, take-append-add, drop-append-add}
 use Rattle.laws.specs.Over.{over, overFrom}
 
 pub over-none : (b : List ℕ) → over [] b ≡ b
@@ -54,3 +54,12 @@ length-overFrom k l b h =
 pub overFrom-over : (l m b : List ℕ) → overFrom (length l) m (over l b) ≡ over (l ++ m) b
 unfolding over overFrom
 overFrom-over l m b = rw (take-append-seam, drop-append-seam, drop-drop, length-append, append-assoc)
+
+pub overFrom-join : (k : ℕ) (l m b : List ℕ) → k ≤ length b → overFrom (k + length l) m (overFrom k l b) ≡ overFrom k (l ++ m) b
+unfolding overFrom
+overFrom-join k l m b h =
+    let p = take k b in
+    let d = drop k b in
+    let front : length p ≡ k = length-take-le k b h in
+    ap (λ (n : ℕ). take (n + length l) (p ++ over l d) ++ over m (drop (n + length l) (p ++ over l d))) (sym front)
+    ∙ rw (take-append-add, drop-append-add, append-assoc) (ap (λ (r : List ℕ). p ++ r) (overFrom-over l m d))

@@ -1,18 +1,18 @@
 -- Laws of big-endian numbers, over any width: lengths, one byte or one number more, and the round trip.
 use mathlib.Core.Path.{_≡_, refl, sym, ap, _∙_}
-use mathlib.Core.List.{List, [], _∷_, _++_, append-assoc}
+use mathlib.Core.List.{List, [], _∷_, _++_, append-assoc, append-nil}
 use Prim.Native.Nat.{ℕ, zero, suc, _+_, _-_, _*_, _/_, _%_, _^_, _≤_, _<_}
 use native.Mathlib.Omega.{arith}
 use native.Mathlib.Numerals.{add-one}
-use native.Mathlib.Nat.{add-assoc, add-comm, mul-suc, mul-zero, mul-assoc, mul-comm, add-mul, mod-one, min-le-left, lt-of-lt-of-le}
+use native.Mathlib.Nat.{add-assoc, add-comm, mul-suc, mul-zero, mul-assoc, mul-comm, add-mul, mod-one, min-le-left, lt-of-lt-of-le, mul-le-mul-left}
 use lib.Pow.{pow-add, pow-mono, mod-pow-add}
 use lib.ListN.{length, take, drop, getD, set, length-append, length-take, length-drop, List·getD-eq-default}
 use lib.Seq.{take-suc, length-take-le, getD-take, getD-drop, drop-drop}
 use lib.Arith.{digits-lt}
 use lib.Dec.{lit<}
 use Rattle.laws.proofs.Cases.{by-lt}
-use Rattle.laws.proofs.Writing.{overFrom-more}
-use Rattle.laws.specs.Over.{overFrom}
+use Rattle.laws.proofs.Writing.{over-more, overFrom-more, overFrom-join}
+use Rattle.laws.specs.Over.{over, overFrom}
 use Rattle.sheet.specs.Numbers.{bigEndian, number, written, numbers, numbersOf, numberAt}
 
 -- a byte more is 256 times as many
@@ -107,6 +107,31 @@ unfolding written
 written-append width [] m = refl
 written-append width (n ∷ l) m = rw (written-append width l m, append-assoc)
 
+-- one number more is written
+pub written-more : (width i : ℕ) (list : List ℕ) → i < length list
+  → written width (take (i + 1) list) ≡ written width (take i list) ++ bigEndian width (getD list i 0)
+unfolding written
+written-more width i list h = rw (add-one, take-suc list i 0 h, written-append) (ap (λ (r : List ℕ). written width (take i list) ++ r) (append-nil _))
+
+pub length-written-more : (width i : ℕ) (list : List ℕ) → i < length list
+  → length (written width (take (i + 1) list)) ≡ length (written width (take i list)) + width
+length-written-more width i list h = rw (written-more width i list h, length-append, length-bigEndian)
+
+-- a number written after the first ones of a list is written with them
+pub written-joined : (width i at place : ℕ) (list b bytes bytes′ : List ℕ) → i < length list → at ≤ length b
+  → place ≡ at + length (written width (take i list))
+  → bytes ≡ overFrom at (written width (take i list)) b
+  → bytes′ ≡ overFrom place (bigEndian width (getD list i 0)) bytes
+  → bytes′ ≡ overFrom at (written width (take (i + 1) list)) b
+written-joined width i at place list b bytes bytes′ h room e f g =
+    rw (g, f, e, written-more width i list h) (overFrom-join at (written width (take i list)) (bigEndian width (getD list i 0)) b room)
+
+pub written-room : (width i : ℕ) (list : List ℕ) → i < length list
+  → length (written width (take i list)) + width ≤ length (written width list)
+written-room width i list h =
+    let whole : width * (i + 1) ≤ width * length list = mul-le-mul-left width (omega arith) in
+    rw (length-written, length-written width list, length-take-le i list (omega arith)) (rw (add-one, mul-suc) at whole)
+
 -- one number more
 pub numbers-more : (width count : ℕ) (bytes : List ℕ) → numbers width (suc count) bytes ≡ numbers width count bytes ++ (numberAt (width * count) width bytes ∷ [])
 unfolding numbers numberAt
@@ -119,3 +144,11 @@ pub length-numbers : (width count : ℕ) (bytes : List ℕ) → length (numbers 
 unfolding numbers
 length-numbers width zero bytes = refl
 length-numbers width (suc count) bytes = ap suc (length-numbers width count (drop width bytes))
+
+-- one offset more of those that are being written to a list
+pub offset-written : (width i : ℕ) (bytes list : List ℕ) → i < length list
+  → set (over (numbers width i bytes) list) i (numberAt (width * i) width bytes) ≡ over (numbers width (i + 1) bytes) list
+offset-written width i bytes list h =
+    let size = length-numbers width i bytes in
+    let more = over-more (numbers width i bytes) list (numberAt (width * i) width bytes) (rw size h) in
+    rw size at more ∙ rw (add-one, numbers-more)

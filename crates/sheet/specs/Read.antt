@@ -9,7 +9,7 @@ use Rattle.terms.specs.declared.Label.{Label}
 use Rattle.terms.specs.declared.Refusal.the-variants.{NoSheet, TrailerWrong, CheckWordWrong, ListNotWellFormed, OtherLabel, RoomTooShort}
 use Rattle.terms.specs.Labels.{byteOf}
 use Rattle.lists.specs.WellFormed.{wellFormed}
-use Rattle.sheet.specs.declared.Trailer.{Trailer}
+use Rattle.sheet.specs.declared.trailer.Trailer.{Trailer}
 use Rattle.sheet.specs.declared.Sheet.{Sheet}
 use Rattle.sheet.specs.declared.Sheet.the-variants.{Read, Refused}
 use Rattle.sheet.specs.Numbers.{numbersOf}
