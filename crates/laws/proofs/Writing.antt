@@ -5,8 +5,8 @@ use Prim.Native.Nat.{ℕ, suc, _+_, _-_, _≤_, _<_}
 use native.Mathlib.Omega.{arith}
 use native.Mathlib.Numerals.{add-one}
 use native.Mathlib.Nat.{zero-add, suc-add}
-use lib.ListN.{length, take, drop, set, length-append, length-drop, take-append-drop, drop-of-length-le}
-use lib.Seq.{drop-cons, set-append-seam, length-take-le, drop-drop, take-append-seam, drop-append-seam, take-append-add, drop-append-add}
+use lib.ListN.{length, take, drop, set, getD, length-append, length-drop, take-append-drop, drop-of-length-le}
+use lib.Seq.{take-suc, drop-cons, set-append-seam, length-take-le, drop-drop, take-append-seam, drop-append-seam, take-append-add, drop-append-add}
 use Rattle.laws.specs.Over.{over, overFrom}
 
 pub over-none : (b : List ℕ) → over [] b ≡ b
@@ -42,6 +42,13 @@ overFrom-more k l b x h =
     ap (λ (n : ℕ). set (take k b ++ over l (drop k b)) (n + length l) x) (sym front)
     ∙ set-past (take k b) (over l (drop k b)) (length l) x
     ∙ ap (λ (r : List ℕ). take k b ++ r) (over-more l (drop k b) x room)
+
+-- one entry more of a list that is being copied
+pub overFrom-next : (k i : ℕ) (l b : List ℕ) → i < length l → k + length l ≤ length b
+  → set (overFrom k (take i l) b) (k + i) (getD l i 0) ≡ overFrom k (take (i + 1) l) b
+overFrom-next k i l b h room =
+    let size : length (take i l) ≡ i = length-take-le i l (omega arith) in
+    rw size at (overFrom-more k (take i l) b (getD l i 0) (rw size (omega arith))) ∙ rw (add-one, take-suc l i 0 h)
 
 pub length-overFrom : (k : ℕ) (l b : List ℕ) → k + length l ≤ length b → length (overFrom k l b) ≡ length b
 unfolding overFrom

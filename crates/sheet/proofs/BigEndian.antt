@@ -11,7 +11,7 @@ use lib.Seq.{take-suc, length-take-le, getD-take, getD-drop, drop-drop}
 use lib.Arith.{digits-lt}
 use lib.Dec.{lit<}
 use Rattle.laws.proofs.Cases.{by-lt}
-use Rattle.laws.proofs.Writing.{over-more, overFrom-more, overFrom-join}
+use Rattle.laws.proofs.Writing.{over-more, overFrom-next, overFrom-join}
 use Rattle.laws.specs.Over.{over, overFrom}
 use Rattle.sheet.specs.Numbers.{bigEndian, number, written, numbers, numbersOf, numberAt}
 
@@ -91,11 +91,7 @@ pub byte-written : (width n place i : ℕ) (bytes : List ℕ) → i < width → 
   → set (overFrom place (take i (bigEndian width n)) bytes) (place + i) (n / 2 ^ (8 * (width - 1 - i)) % 256)
     ≡ overFrom place (take (i + 1) (bigEndian width n)) bytes
 byte-written width n place i bytes h room =
-    let l = take i (bigEndian width n) in
-    let size : length l ≡ i = length-take-le i (bigEndian width n) (rw length-bigEndian (omega arith)) in
-    let fits : i < length (bigEndian width n) = rw length-bigEndian h in
-    let more = overFrom-more place l bytes (n / 2 ^ (8 * (width - 1 - i)) % 256) (rw size (omega arith)) in
-    rw (size) at more ∙ rw (add-one, take-suc (bigEndian width n) i 0 fits, getD-bigEndian width n i h)
+    rw (← getD-bigEndian width n i h) (overFrom-next place i (bigEndian width n) bytes (rw length-bigEndian h) (rw length-bigEndian room))
 
 pub length-written : (width : ℕ) (list : List ℕ) → length (written width list) ≡ width * length list
 unfolding written

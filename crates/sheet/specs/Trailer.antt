@@ -49,11 +49,14 @@ unfoldable pub trailerFor : Settings → Label → ℕ → Trailer
 trailerFor settings label count =
     record { label = byteOf label; settings = settings; zeros = 0; count = count; distance = 8 * count }
 
+unfoldable pub isLabel : ℕ → Bool
+isLabel byte = eqb byte (byteOf Practice) || eqb byte (byteOf Live)
+
 -- a label P or L, settings in range, two zero bytes, a count that a sheet may have, its distance, and a body that fits into what
 -- stands before the trailer
 unfoldable pub trailerRight : (before : ℕ) → Trailer → Bool
 trailerRight before t =
-    (eqb (t .label) (byteOf Practice) || eqb (t .label) (byteOf Live))
+    isLabel (t .label)
     && (inRange (t .settings)
     && (eqb (t .zeros) 0
     && (leb (t .count) mostCuts

@@ -1,15 +1,14 @@
 // The trailer of a sheet, each way.
-use crate::check::check_word;
 use crate::numbers::number_at;
 use crate::numbers::put_numbers;
 use terms::Label;
 use terms::Settings;
 
 ghost use mathlib.Core.Path.{_≡_};
-ghost use Prim.Native.Nat.{_+_, _≤_, _<_};
-ghost use lib.ListN.{length, take, drop};
+ghost use Prim.Native.Nat.{_+_, _*_, _≤_, _<_};
+ghost use lib.ListN.{length, take};
 ghost use Rattle.laws.specs.Over.{overFrom};
-ghost use Rattle.sheet.specs.Trailer.{mark, fields, trailerIn, trailerFor, trailerRight, mostCuts};
+ghost use Rattle.sheet.specs.Trailer.{mark, fields, trailerIn, trailerFor, isLabel, trailerRight};
 ghost use Rattle.sheet.specs.Read.{same};
 
 // The fields of a trailer, as they stand in its bytes.
@@ -69,15 +68,25 @@ pub fn trailer_in(bytes: &[u8]) -> Trailer
     }
 }
 
+// Whether a byte stands for a label.
+fn is_label(byte: u8) -> bool
+    ensures { λ r. ⌜ r ≡ isLabel byte ⌝ }
+{
+    if byte == b'P' {
+        return true;
+    }
+    if byte == b'L' {
+        return true;
+    }
+    false
+}
+
 // Whether a trailer's fields are right where so many bytes stand before it.
 pub fn is_right(before: u64, trailer: Trailer) -> bool
     ensures { λ r. ⌜ r ≡ trailerRight before trailer ⌝ }
 {
-    let label = trailer.label;
-    if label != b'P' {
-        if label != b'L' {
-            return false;
-        }
+    if !is_label(trailer.label) {
+        return false;
     }
     let settings = trailer.settings;
     if !settings.in_range() {
@@ -110,4 +119,26 @@ pub fn put_bytes(part: &[u8], at: usize, bytes: &mut [u8])
         bytes[at + i] = part[i];
         i += 1;
     }
+}
+
+// Writes the trailer of a sheet of count cuts, up to its check word, after a body of as many. It is inner: the caller sees that
+// K is a byte and that there is room.
+pub fn put_fields(settings: Settings, label: Label, count: usize, bytes: &mut [u8])
+    requires { ⌜ (settings .bits < 256) × (8 * count + 28 ≤ length (now bytes)) ⌝ }
+    ensures { λ _. ⌜ now (bytes .exit) ≡ overFrom (8 * count) (fields (trailerFor settings label count)) (now (bytes .entry)) ⌝ }
+{
+    let at = 8 * count;
+    put_bytes(b"CUTS", at, bytes);
+    let bits = settings.bits;
+    let signs: [u8; 4] = [label.byte(), bits as u8, 0, 0];
+    put_bytes(&signs, at + 4, bytes);
+    let target = settings.target;
+    let numbers: [u64; 5] = [
+        target as u64,
+        settings.minimum,
+        settings.maximum,
+        count as u64,
+        at as u64,
+    ];
+    put_numbers(4, &numbers, at + 8, bytes);
 }
