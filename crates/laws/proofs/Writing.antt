@@ -25,6 +25,16 @@ pub over-full : (l b : List ℕ) → length b ≡ length l → over l b ≡ l
 unfolding over
 over-full l b e = rw (drop-of-length-le b {i = length l} (omega arith)) (append-nil l)
 
+-- what was written is there
+pub take-over : (l b : List ℕ) → take (length l) (over l b) ≡ l
+unfolding over
+take-over l b = take-append-seam l (drop (length l) b)
+
+-- from place 0 on is from the first entry on
+pub overFrom-zero : (l b : List ℕ) → overFrom 0 l b ≡ over l b
+unfolding overFrom
+overFrom-zero l b = refl
+
 pub overFrom-none : (k : ℕ) (b : List ℕ) → overFrom k [] b ≡ b
 unfolding over overFrom
 overFrom-none k b = take-append-drop k b

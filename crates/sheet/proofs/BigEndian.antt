@@ -4,7 +4,7 @@ use mathlib.Core.List.{List, [], _∷_, _++_, append-assoc, append-nil}
 use Prim.Native.Nat.{ℕ, zero, suc, _+_, _-_, _*_, _/_, _%_, _^_, _≤_, _<_}
 use native.Mathlib.Omega.{arith}
 use native.Mathlib.Numerals.{add-one}
-use native.Mathlib.Nat.{add-assoc, add-comm, mul-suc, mul-zero, mul-assoc, mul-comm, add-mul, mod-one, min-le-left, lt-of-lt-of-le, mul-le-mul-left}
+use native.Mathlib.Nat.{add-assoc, add-comm, mul-suc, mul-zero, mul-assoc, mul-comm, add-mul, mod-one, min-le-left, lt-of-lt-of-le, mul-le-mul-left, le-of-suc-le-suc}
 use lib.Pow.{pow-add, pow-mono, mod-pow-add}
 use lib.ListN.{length, take, drop, getD, set, length-append, length-take, length-drop, List·getD-eq-default}
 use lib.Seq.{take-suc, length-take-le, getD-take, getD-drop, drop-drop}
@@ -148,3 +148,10 @@ offset-written width i bytes list h =
     let size = length-numbers width i bytes in
     let more = over-more (numbers width i bytes) list (numberAt (width * i) width bytes) (rw size h) in
     rw size at more ∙ rw (add-one, numbers-more)
+
+pub getD-numbers : (width count i : ℕ) (bytes : List ℕ) → i < count → getD (numbers width count bytes) i 0 ≡ numberAt (width * i) width bytes
+unfolding numbers numberAt
+getD-numbers width zero i bytes h = absurd (omega arith)
+getD-numbers width (suc count) zero bytes h = rw mul-zero
+getD-numbers width (suc count) (suc i) bytes h =
+    getD-numbers width count i (drop width bytes) (le-of-suc-le-suc h) ∙ rw (drop-drop, mul-suc, add-comm width (width * i))

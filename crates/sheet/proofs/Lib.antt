@@ -1,3 +1,5 @@
 pub mod BigEndian
 pub mod CheckWord
 pub mod Same
+pub mod Offsets
+pub mod Parts

@@ -1,4 +1,13 @@
+-- `sheet::is_well_formed` meets its contract. The invariant: the offsets are well formed exactly where their steps from the entry before on fit.
+use mathlib.Core.Path.{_≡_, refl, sym, _∙_}
+use Prim.Native.Nat.{_-_, _/_, _≤_}
+use lib.ListN.{length, drop}
+use native.Mathlib.Omega.{arith}
 use borrow.Author.Needs.{needs}
+use borrow.Author.Tests.{le-leb, lt-leb, not-true, not-false}
+use Rattle.lists.specs.WellFormed.{stepsFit, wellFormed}
+use Rattle.sheet.specs.Numbers.{numbersOf}
+use Rattle.sheet.proofs.Offsets.{offset-passed, offset-refused, offsets-end}
 use Rattle.sheet.proofs.is_well_formed.Statement.{statement}
 use Rattle.sheet.proofs.is_well_formed.Tie as tie
 use Rattle.sheet.proofs.is_well_formed.Reads as reads
@@ -7,54 +16,45 @@ use Rattle.lists.proofs.step_fits.Reads as step-fits-reads
 use Rattle.sheet.proofs.numbers.number_at.Reads as number-at-reads
 
 abbrev Inv-loop : tie.InvT-loop
-Inv-loop minimum maximum body count before₀ i₀ before i = ?
+Inv-loop minimum maximum body count before₀ i₀ before i =
+    (i ≤ length body / 8) × (wellFormed minimum maximum (numbersOf 8 body) ≡ stepsFit minimum maximum before (drop i (numbersOf 8 body)))
 
 abbrev μ-loop : tie.MeasureT-loop
-μ-loop minimum maximum body count before₀ i₀ before i = ?
+μ-loop minimum maximum body count before₀ i₀ before i = length body / 8 - i
 
--- src/lib.rt:86:5
 loop-holds : tie.Need-loop-holds Inv-loop μ-loop
-loop-holds c = search needs
+unfolding wellFormed
+loop-holds c = (search needs, refl)
 
--- src/lib.rt:87:34
 mul-number-at : tie.Need-mul-number-at Inv-loop μ-loop
 mul-number-at c = search needs
 
--- src/lib.rt:87:13
 number-at-requires : tie.Need-number-at-requires Inv-loop μ-loop
 number-at-requires c κs = search needs
 
--- src/lib.rt:88:48
 add-step-fits : tie.Need-add-step-fits Inv-loop μ-loop
 add-step-fits c = search needs
 
--- src/lib.rt:88:13
 step-fits-requires : tie.Need-step-fits-requires Inv-loop μ-loop
 step-fits-requires c κs = search needs
 
--- src/lib.rt:89:13
 returns : tie.Need-returns Inv-loop μ-loop
-returns c = search needs
+returns c = sym (c .before .before .before .before .loop .inv .1 ∙ offset-refused _ _ _ _ _ (c .before .before .before .loop-test .taken) (c .before .before .number-at .ensures .0) (c .before .step-fits .ensures) (not-true _ (c .if1 .taken)))
 
--- src/lib.rt:92:9
 add-i : tie.Need-add-i Inv-loop μ-loop
 add-i c = search needs
 
--- src/lib.rt:86:5
 loop-less : tie.Need-loop-less Inv-loop μ-loop
 loop-less c = search needs
 
--- src/lib.rt:86:5
 loop-again : tie.Need-loop-again Inv-loop μ-loop
-loop-again c = search needs
+loop-again c = (search needs, c .before .before .before .before .loop .inv .1 ∙ offset-passed _ _ _ _ _ (c .before .before .before .loop-test .taken) (c .before .before .number-at .ensures .0) (c .before .step-fits .ensures) (not-false _ (c .if1 .left)))
 
--- src/lib.rt:95:9
 returns-2 : tie.Need-returns-2 Inv-loop μ-loop
-returns-2 c = search needs
+returns-2 c = sym (c .before .before .loop .inv .1 ∙ offsets-end _ _ _ _ _ (c .before .loop-test .left) ∙ lt-leb _ _ (c .if2 .taken))
 
--- src/lib.rt:80:1
 returns-3 : tie.Need-returns-3 Inv-loop μ-loop
-returns-3 c = search needs
+returns-3 c = sym (c .before .before .loop .inv .1 ∙ offsets-end _ _ _ _ _ (c .before .loop-test .left) ∙ le-leb _ _ (c .if2 .left))
 
 pub is-well-formed-spec : {M : Type 1} → statement M
 is-well-formed-spec =
