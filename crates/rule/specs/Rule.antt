@@ -1,8 +1,10 @@
 -- The one-pass rule over any marks: document 01, "The one-pass rule". A log of n bytes is seen here only through its marks.
-use Prim.Native.Nat.{ℕ, zero, suc, _+_, _-_, min}
+use Prim.Native.Nat.{ℕ, zero, suc, _+_, _-_, _≤_, _<_, min}
 use mathlib.Core.Bool.{Bool, true, false}
 use mathlib.Core.List.{List, [], _∷_}
+use mathlib.Core.Path.{_≡_}
 use lib.Dec.{leb, ltb}
+unfoldable pub use Rattle.laws.specs.Last.{lastOr}
 
 -- the first of the k offsets from p on that is a mark; other where none is
 unfoldable pub firstMark : (ℕ → Bool) → ℕ → ℕ → ℕ → ℕ
@@ -15,6 +17,17 @@ unfoldable pub next : (ℕ → Bool) → ℕ → ℕ → ℕ → ℕ → ℕ
 next mark minimum maximum n c =
     let last = min (c + maximum) n in
     firstMark mark (suc last - (c + minimum)) (c + minimum) last
+
+-- no offset from a up to, not including, b is a mark
+abbrev pub Unmarked : (ℕ → Bool) → ℕ → ℕ → Type 0
+Unmarked mark a b = (q : ℕ) → a ≤ q → q < b → mark q ≡ false
+
+-- the same sentence as a statement of r: proofs/Next.antt shows that it holds of `next` and of nothing else
+pub data NextCut (mark : ℕ → Bool) (minimum maximum n c : ℕ) : ℕ → Type 0 where
+  first-mark : (r : ℕ) → c + minimum ≤ r → r ≤ c + maximum → r ≤ n → mark r ≡ true → Unmarked mark (c + minimum) r
+      → NextCut mark minimum maximum n c r
+  forced : c + maximum ≤ n → Unmarked mark (c + minimum) (suc (c + maximum)) → NextCut mark minimum maximum n c (c + maximum)
+  log-ends : n < c + maximum → Unmarked mark (c + minimum) (suc n) → NextCut mark minimum maximum n c n
 
 -- what follows c by steps of next, up to n; fuel bounds the number of steps
 unfoldable pub chain : (ℕ → ℕ) → ℕ → ℕ → ℕ → List ℕ
@@ -38,5 +51,10 @@ unfoldable pub hops : (ℕ → ℕ) → ℕ → ℕ → ℕ → List ℕ
 hops hop e zero c = []
 hops hop e (suc fuel) c = elim (leb (hop c) e) [ true ↦ hop c ∷ hops hop e fuel (hop c) | false ↦ [] ]
 
+-- the cuts after the cut c up to e
 unfoldable pub cutsUpTo : (ℕ → Bool) → ℕ → ℕ → ℕ → ℕ → List ℕ
 cutsUpTo mark minimum maximum e c = hops (hop mark minimum maximum) e (e - c) c
+
+-- the log's end, where the last cut m before it is not the end already
+unfoldable pub closing : ℕ → ℕ → List ℕ
+closing n m = elim (ltb m n) [ true ↦ n ∷ [] | false ↦ [] ]

@@ -1,3 +1,4 @@
 pub mod Settings
 pub mod Refusals
 pub mod Labels
+pub mod Answers

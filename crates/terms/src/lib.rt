@@ -47,11 +47,14 @@ pub enum Refusal {
     ListFull,
 }
 
-// What a call answers that writes a list or bytes: how many it wrote, or why it is refused.
+// What a call answers: the entries or bytes written, or why it is refused.
 pub enum Answer {
     Wrote(u64),
     Refused(Refusal),
 }
+
+// A log has at most this many bytes.
+pub const LONGEST: u64 = 1_099_511_627_776;
 
 impl Settings {
     // Whether every setting is within its range.

@@ -1,0 +1,98 @@
+-- Chains over any `next` that rises and stays within n: opening, runs, taking the list apart at a cut, and two chains that lie alike.
+-- Nothing here knows of marks, so that the rule may change behind it.
+use Prim.Native.Nat.{ℕ, zero, suc, _+_, _-_, _≤_, _<_}
+use mathlib.Core.Path.{_≡_, refl, sym, ap, ap₂, _∙_, subst}
+use mathlib.Core.List.{List, [], _∷_, _++_, map}
+use native.Mathlib.Omega.{arith}
+use borrow.Author.Tests.{lt-ltb, le-ltb}
+use Rattle.laws.proofs.Cases.{by-lt}
+use Rattle.rule.specs.Rule.{chain}
+
+-- l are the cuts after c, one after the other, and m is the last of them, or c where there are none
+pub data Run (next : ℕ → ℕ) (n : ℕ) : ℕ → List ℕ → ℕ → Type 0 where
+  stay : {c : ℕ} → Run next n c [] c
+  onward : {c : ℕ} {l : List ℕ} {m : ℕ} → c < n → Run next n (next c) l m → Run next n c (next c ∷ l) m
+
+-- every cut below n is followed by a higher one, at most n
+pub record Rising (next : ℕ → ℕ) (n : ℕ) : Type 0 where
+  pub rises : (c : ℕ) → c < n → c < next c
+  pub within : (c : ℕ) → c < n → next c ≤ n
+
+pub run-joined : {next : ℕ → ℕ} {n c m e : ℕ} {l k : List ℕ} → Run next n c l m → Run next n m k e → Run next n c (l ++ k) e
+run-joined stay s = s
+run-joined (onward h r) s = onward h (run-joined r s)
+
+module _ (next : ℕ → ℕ) (n : ℕ) where
+  one-more : (fuel c : ℕ) → c < n → chain next n (suc fuel) c ≡ next c ∷ chain next n fuel (next c)
+  unfolding chain
+  one-more fuel c h = rw (lt-ltb c n h, chain)
+
+  pub at-end : (fuel c : ℕ) → n ≤ c → chain next n fuel c ≡ []
+  unfolding chain
+  at-end zero c h = refl
+  at-end (suc fuel) c h = rw (le-ltb c n h, chain)
+
+  module _ (ok : Rising next n) where
+    -- fuel for the bytes that are left is enough, and more changes nothing
+    enough : (j k c : ℕ) → n ≤ c + j → n ≤ c + k → chain next n j c ≡ chain next n k c
+    enough zero k c hj hk = at-end zero c (omega arith) ∙ sym (at-end k c (omega arith))
+    enough (suc j) zero c hj hk = at-end (suc j) c (omega arith) ∙ sym (at-end zero c (omega arith))
+    enough (suc j) (suc k) c hj hk =
+        by-lt c n
+        (λ h. let up : c < next c = ok .rises c h in
+        one-more j c h ∙ ap (λ l. next c ∷ l) (enough j k (next c) (omega arith) (omega arith)) ∙ sym (one-more k c h))
+        (λ h. at-end (suc j) c h ∙ sym (at-end (suc k) c h))
+
+    pub opened : (c : ℕ) → c < n → chain next n (n - c) c ≡ next c ∷ chain next n (n - next c) (next c)
+    opened c h =
+        let up : c < next c = ok .rises c h in
+        enough (n - c) (suc (n - c)) c (omega arith) (omega arith) ∙ one-more (n - c) c h
+        ∙ ap (λ l. next c ∷ l) (enough (n - c) (n - next c) (next c) (omega arith) (omega arith))
+
+    -- the list, taken apart where a run of its cuts ends
+    pub parted : {c m : ℕ} {l : List ℕ} → Run next n c l m → chain next n (n - c) c ≡ l ++ chain next n (n - m) m
+    parted stay = refl
+    parted (onward {c = c} h r) = opened c h ∙ ap (λ l. next c ∷ l) (parted r)
+
+    ended : (c : ℕ) → c ≤ n → n ≤ c → Run next n c (chain next n (n - c) c) n
+    ended c h e = rw (at-end (n - c) c e) (subst (λ m. Run next n c [] m) (omega arith) stay)
+
+    by-fuel : (fuel c : ℕ) → c ≤ n → n ≤ c + fuel → Run next n c (chain next n (n - c) c) n
+    by-fuel zero c h f = ended c h (omega arith)
+    by-fuel (suc fuel) c h f =
+        by-lt c n
+        (λ below. let up : c < next c = ok .rises c below in
+        rw (opened c below) (onward below (by-fuel fuel (next c) (ok .within c below) (omega arith))))
+        (ended c h)
+
+    -- all cuts after c are a run that ends at n
+    pub whole : (c : ℕ) → c ≤ n → Run next n c (chain next n (n - c) c) n
+    whole c h = by-fuel n c h (omega arith)
+
+    pub run-rises : {c m : ℕ} {l : List ℕ} → Run next n c l m → c ≤ m
+    run-rises stay = omega arith
+    run-rises (onward {c = c} h r) = let up : c < next c = ok .rises c h in let on : next c ≤ _ = run-rises r in omega arith
+
+-- a run is one of another rule too, where that rule agrees on each of its steps
+pub run-kept : {next next′ : ℕ → ℕ} {n n′ : ℕ} → Rising next n → {c m : ℕ} {l : List ℕ}
+    → ((x : ℕ) → x < n → next x ≤ m → (x < n′) × (next′ x ≡ next x)) → Run next n c l m → Run next′ n′ c l m
+run-kept ok agree stay = stay
+run-kept {next} {next′} {n} {n′} ok agree (onward {c = c} {l = l} {m = m} h r) =
+    let same = agree c h (run-rises next n ok r) in
+    subst (λ x. Run next′ n′ c (x ∷ l) m) (same .1)
+    (onward (same .0) (subst (λ x. Run next′ n′ x l m) (sym (same .1)) (run-kept ok agree r)))
+
+-- two chains that lie alike from c and c′ on: a step of the one, moved, is a step of the other
+module _ (next next′ : ℕ → ℕ) (n n′ a b : ℕ) (ends : n + b ≡ n′ + a) where
+  pub chains-alike : (from : ℕ)
+      → ((x x′ : ℕ) → from ≤ x → x < n → x + b ≡ x′ + a → (from ≤ next x) × (next x + b ≡ next′ x′ + a))
+      → (fuel c c′ : ℕ) → from ≤ c → c + b ≡ c′ + a
+      → map (λ x. x + b) (chain next n fuel c) ≡ map (λ x. x + a) (chain next′ n′ fuel c′)
+  unfolding chain
+  chains-alike from step zero c c′ h e = refl
+  chains-alike from step (suc fuel) c c′ h e =
+      by-lt c n
+      (λ below. let s = step c c′ h below e in
+      rw (one-more next n fuel c below, one-more next′ n′ fuel c′ (omega arith))
+      (ap₂ _∷_ (s .1) (chains-alike from step fuel (next c) (next′ c′) (s .0) (s .1))))
+      (λ past. rw (at-end next n (suc fuel) c past, at-end next′ n′ (suc fuel) c′ (omega arith)))

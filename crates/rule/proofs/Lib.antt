@@ -1,0 +1,4 @@
+pub mod First
+pub mod Chain
+pub mod Next
+pub mod Hops
