@@ -7,6 +7,7 @@ use lib.ListN.{length, take, drop}
 use Rattle.laws.specs.Over.{over}
 use Rattle.terms.specs.declared.Label.{Label}
 use Rattle.terms.specs.declared.Refusal.the-variants.{NoSheet, TrailerWrong, CheckWordWrong, ListNotWellFormed, OtherLabel, RoomTooShort}
+use Rattle.terms.specs.Answers.{unless}
 use Rattle.terms.specs.Labels.{byteOf}
 use Rattle.lists.specs.WellFormed.{wellFormed}
 use Rattle.sheet.specs.declared.trailer.Trailer.{Trailer}
@@ -41,20 +42,13 @@ listIn bytes = numbersOf 8 (take (trailerOf bytes .distance) (sheetIn bytes))
 unfoldable pub readAnswer : List ℕ → Label → (room : ℕ) → Sheet
 readAnswer bytes asked room =
     let t = trailerOf bytes in
-    elim (leb 32 (length bytes) && same mark (take 4 (trailerBytes bytes))) [
-      false ↦ Refused NoSheet
-    | true ↦ elim (trailerRight (length bytes - 32) t) [
-      false ↦ Refused TrailerWrong
-    | true ↦ elim (checked (sheetIn bytes)) [
-      false ↦ Refused CheckWordWrong
-    | true ↦ elim (wellFormed (t .settings .minimum) (t .settings .maximum) (listIn bytes)) [
-      false ↦ Refused ListNotWellFormed
-    | true ↦ elim (eqb (t .label) (byteOf asked)) [
-      false ↦ Refused OtherLabel
-    | true ↦ elim (leb (t .count) room) [
-      false ↦ Refused RoomTooShort
-    | true ↦ Read (t .label) (t .settings) (t .count)
-    ] ] ] ] ] ]
+    unless (leb 32 (length bytes) && same mark (take 4 (trailerBytes bytes))) (Refused NoSheet)
+    (unless (trailerRight (length bytes - 32) t) (Refused TrailerWrong)
+    (unless (checked (sheetIn bytes)) (Refused CheckWordWrong)
+    (unless (wellFormed (t .settings .minimum) (t .settings .maximum) (listIn bytes)) (Refused ListNotWellFormed)
+    (unless (eqb (t .label) (byteOf asked)) (Refused OtherLabel)
+    (unless (leb (t .count) room) (Refused RoomTooShort)
+    (Read (t .label) (t .settings) (t .count)))))))
 
 -- what the lent list holds afterwards
 unfoldable pub listAfter : List ℕ → Label → List ℕ → List ℕ
