@@ -55,7 +55,7 @@ overFrom-more k l b x h =
 
 -- one entry more of a list that is being copied
 pub overFrom-next : (k i : ℕ) (l b : List ℕ) → i < length l → k + length l ≤ length b
-  → set (overFrom k (take i l) b) (k + i) (getD l i 0) ≡ overFrom k (take (i + 1) l) b
+    → set (overFrom k (take i l) b) (k + i) (getD l i 0) ≡ overFrom k (take (i + 1) l) b
 overFrom-next k i l b h room =
     let size : length (take i l) ≡ i = length-take-le i l (omega arith) in
     rw size at (overFrom-more k (take i l) b (getD l i 0) (rw size (omega arith))) ∙ rw (add-one, take-suc l i 0 h)

@@ -74,7 +74,7 @@ numberAt-lt l place width fits h =
 
 -- one byte more of the number at a place
 pub numberAt-more : (l : List ℕ) (place width : ℕ) → place + width < length l
-  → numberAt place (width + 1) l ≡ numberAt place width l * 256 + getD l (place + width) 0
+    → numberAt place (width + 1) l ≡ numberAt place width l * 256 + getD l (place + width) 0
 unfolding numberAt
 numberAt-more l place width h =
     rw (add-one, take-suc (drop place l) width 0 (rw length-drop (omega arith)), number-more, getD-drop)
@@ -88,7 +88,7 @@ within-64 k h hn = lt-of-lt-of-le hn (pow-mono {i = 8 * k} {j = 64} (omega arith
 
 -- one byte more of a number that is being written at a place
 pub byte-written : (width n place i : ℕ) (bytes : List ℕ) → i < width → place + width ≤ length bytes
-  → set (overFrom place (take i (bigEndian width n)) bytes) (place + i) (n / 2 ^ (8 * (width - 1 - i)) % 256)
+    → set (overFrom place (take i (bigEndian width n)) bytes) (place + i) (n / 2 ^ (8 * (width - 1 - i)) % 256)
     ≡ overFrom place (take (i + 1) (bigEndian width n)) bytes
 byte-written width n place i bytes h room =
     rw (← getD-bigEndian width n i h) (overFrom-next place i (bigEndian width n) bytes (rw length-bigEndian h) (rw length-bigEndian room))
@@ -105,25 +105,25 @@ written-append width (n ∷ l) m = rw (written-append width l m, append-assoc)
 
 -- one number more is written
 pub written-more : (width i : ℕ) (list : List ℕ) → i < length list
-  → written width (take (i + 1) list) ≡ written width (take i list) ++ bigEndian width (getD list i 0)
+    → written width (take (i + 1) list) ≡ written width (take i list) ++ bigEndian width (getD list i 0)
 unfolding written
 written-more width i list h = rw (add-one, take-suc list i 0 h, written-append) (ap (λ (r : List ℕ). written width (take i list) ++ r) (append-nil _))
 
 pub length-written-more : (width i : ℕ) (list : List ℕ) → i < length list
-  → length (written width (take (i + 1) list)) ≡ length (written width (take i list)) + width
+    → length (written width (take (i + 1) list)) ≡ length (written width (take i list)) + width
 length-written-more width i list h = rw (written-more width i list h, length-append, length-bigEndian)
 
 -- a number written after the first ones of a list is written with them
 pub written-joined : (width i at place : ℕ) (list b bytes bytes′ : List ℕ) → i < length list → at ≤ length b
-  → place ≡ at + length (written width (take i list))
-  → bytes ≡ overFrom at (written width (take i list)) b
-  → bytes′ ≡ overFrom place (bigEndian width (getD list i 0)) bytes
-  → bytes′ ≡ overFrom at (written width (take (i + 1) list)) b
+    → place ≡ at + length (written width (take i list))
+    → bytes ≡ overFrom at (written width (take i list)) b
+    → bytes′ ≡ overFrom place (bigEndian width (getD list i 0)) bytes
+    → bytes′ ≡ overFrom at (written width (take (i + 1) list)) b
 written-joined width i at place list b bytes bytes′ h room e f g =
     rw (g, f, e, written-more width i list h) (overFrom-join at (written width (take i list)) (bigEndian width (getD list i 0)) b room)
 
 pub written-room : (width i : ℕ) (list : List ℕ) → i < length list
-  → length (written width (take i list)) + width ≤ length (written width list)
+    → length (written width (take i list)) + width ≤ length (written width list)
 written-room width i list h =
     let whole : width * (i + 1) ≤ width * length list = mul-le-mul-left width (omega arith) in
     rw (length-written, length-written width list, length-take-le i list (omega arith)) (rw (add-one, mul-suc) at whole)
@@ -143,7 +143,7 @@ length-numbers width (suc count) bytes = ap suc (length-numbers width count (dro
 
 -- one offset more of those that are being written to a list
 pub offset-written : (width i : ℕ) (bytes list : List ℕ) → i < length list
-  → set (over (numbers width i bytes) list) i (numberAt (width * i) width bytes) ≡ over (numbers width (i + 1) bytes) list
+    → set (over (numbers width i bytes) list) i (numberAt (width * i) width bytes) ≡ over (numbers width (i + 1) bytes) list
 offset-written width i bytes list h =
     let size = length-numbers width i bytes in
     let more = over-more (numbers width i bytes) list (numberAt (width * i) width bytes) (rw size h) in

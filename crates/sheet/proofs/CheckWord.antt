@@ -29,7 +29,7 @@ check-is r words h e = omega arith
 
 -- the last word found is compared with the right one
 module _ (sheet : List ℕ) {found right : ℕ}
-  (is-found : found ≡ numberAt (length sheet - 4) 4 sheet) (is-right : right ≡ checkWord (numbersOf 4 (take (length sheet - 4) sheet))) where
+    (is-found : found ≡ numberAt (length sheet - 4) 4 sheet) (is-right : right ≡ checkWord (numbersOf 4 (take (length sheet - 4) sheet))) where
   pub checked-true : found ≡ right → checked sheet ≡ true
   unfolding checked
   checked-true e = eq-eqb _ _ (sym is-found ∙ e ∙ is-right)

@@ -3,3 +3,4 @@ pub mod CheckWord
 pub mod Same
 pub mod Offsets
 pub mod Parts
+pub mod Reading

@@ -20,7 +20,7 @@ getD-offsets body i h = getD-numbers 8 (length body / 8) i body h
 
 module _ (minimum maximum before : ℕ) (body : List ℕ) (i : ℕ) where
   module _ {entry : ℕ} {r : Bool} (h : i < length body / 8) (is-entry : entry ≡ numberAt (8 * i) 8 body)
-    (is-fit : r ≡ stepFits minimum maximum (eqb (i + 1) (length body / 8)) before entry) where
+      (is-fit : r ≡ stepFits minimum maximum (eqb (i + 1) (length body / 8)) before entry) where
     inside : i < length (numbersOf 8 body)
     inside = rw length-offsets h
 

@@ -25,10 +25,10 @@ length-front t list = rw (length-append, length-written, length-fields)
 module _ (settings : Settings) (label : Label) where
   -- mark, then label and K, then the numbers: together the trailer's fields
   pub fields-written : (count : ℕ) (b : List ℕ) {byte : ℕ} {b₁ b₂ b₃ : List ℕ} → 8 * count ≤ length b → byte ≡ byteOf label
-    → b₁ ≡ overFrom (8 * count) mark b
-    → b₂ ≡ overFrom (8 * count + 4) (byte ∷ settings .bits ∷ 0 ∷ 0 ∷ []) b₁
-    → b₃ ≡ overFrom (8 * count + 8) (written 4 (settings .target ∷ settings .minimum ∷ settings .maximum ∷ count ∷ 8 * count ∷ [])) b₂
-    → b₃ ≡ overFrom (8 * count) (fields (trailerFor settings label count)) b
+      → b₁ ≡ overFrom (8 * count) mark b
+      → b₂ ≡ overFrom (8 * count + 4) (byte ∷ settings .bits ∷ 0 ∷ 0 ∷ []) b₁
+      → b₃ ≡ overFrom (8 * count + 8) (written 4 (settings .target ∷ settings .minimum ∷ settings .maximum ∷ count ∷ 8 * count ∷ [])) b₂
+      → b₃ ≡ overFrom (8 * count) (fields (trailerFor settings label count)) b
   unfolding fields trailerFor bigEndian
   fields-written count b {byte} {b₁} {b₂} {b₃} room e e₁ e₂ e₃ =
       let signs = byteOf label ∷ settings .bits ∷ 0 ∷ 0 ∷ [] in
@@ -38,11 +38,11 @@ module _ (settings : Settings) (label : Label) where
 
   -- body, fields and check word: together the sheet
   pub sheet-written : (list b : List ℕ) {check : ℕ} {b₁ b₂ b₃ : List ℕ}
-    → b₁ ≡ overFrom 0 (written 8 list) b
-    → b₂ ≡ overFrom (8 * length list) (fields (trailerFor settings label (length list))) b₁
-    → check ≡ checkWord (numbersOf 4 (take (8 * length list + 28) b₂))
-    → b₃ ≡ overFrom (8 * length list + 28) (bigEndian 4 check) b₂
-    → b₃ ≡ over (sheetOf settings label list) b
+      → b₁ ≡ overFrom 0 (written 8 list) b
+      → b₂ ≡ overFrom (8 * length list) (fields (trailerFor settings label (length list))) b₁
+      → check ≡ checkWord (numbersOf 4 (take (8 * length list + 28) b₂))
+      → b₃ ≡ overFrom (8 * length list + 28) (bigEndian 4 check) b₂
+      → b₃ ≡ over (sheetOf settings label list) b
   unfolding sheetOf withCheck
   sheet-written list b {check} {b₁} {b₂} {b₃} e₁ e₂ e e₃ =
       let t = trailerFor settings label (length list) in

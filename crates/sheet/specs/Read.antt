@@ -54,6 +54,6 @@ readAnswer bytes asked room =
 unfoldable pub listAfter : List ℕ → Label → List ℕ → List ℕ
 listAfter bytes asked list =
     elim (readAnswer bytes asked (length list)) [
-      Read label settings count ↦ over (listIn bytes) list
-    | Refused why ↦ list
+      | Read label settings count ↦ over (listIn bytes) list
+      | Refused why ↦ list
     ]

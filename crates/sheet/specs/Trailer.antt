@@ -33,15 +33,15 @@ trailerIn bytes =
     record {
       label = getD bytes 4 0;
       settings =
-        record {
-          bits = getD bytes 5 0;
-          target = numberAt 8 4 bytes;
-          minimum = numberAt 12 4 bytes;
-          maximum = numberAt 16 4 bytes
-        };
+          record {
+            bits = getD bytes 5 0;
+            target = numberAt 8 4 bytes;
+            minimum = numberAt 12 4 bytes;
+            maximum = numberAt 16 4 bytes;
+          };
       zeros = numberAt 6 2 bytes;
       count = numberAt 20 4 bytes;
-      distance = numberAt 24 4 bytes
+      distance = numberAt 24 4 bytes;
     }
 
 -- the trailer of a sheet of count cuts

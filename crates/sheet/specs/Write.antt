@@ -28,6 +28,6 @@ writeAnswer settings list room =
 unfoldable pub bytesAfter : Settings → Label → List ℕ → List ℕ → List ℕ
 bytesAfter settings label list bytes =
     elim (writeAnswer settings list (length bytes)) [
-      Wrote size ↦ over (sheetOf settings label list) bytes
-    | Refused why ↦ bytes
+      | Wrote size ↦ over (sheetOf settings label list) bytes
+      | Refused why ↦ bytes
     ]

@@ -1,6 +1,5 @@
 // The check word of a sheet.
 use crate::numbers::number_at;
-
 ghost use mathlib.Core.Path.{_≡_};
 ghost use Prim.Native.Nat.{_≤_};
 ghost use lib.ListN.{length};

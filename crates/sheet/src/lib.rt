@@ -17,7 +17,6 @@ use trailer::is_marked;
 use trailer::is_right;
 use trailer::put_fields;
 use trailer::trailer_in;
-
 ghost use mathlib.Core.Path.{_≡_};
 ghost use mathlib.Core.Bool.{true};
 ghost use Prim.Native.Nat.{_+_, _*_, _≤_, _<_};

@@ -3,7 +3,6 @@ use crate::numbers::number_at;
 use crate::numbers::put_numbers;
 use terms::Label;
 use terms::Settings;
-
 ghost use mathlib.Core.Path.{_≡_};
 ghost use Prim.Native.Nat.{_+_, _*_, _≤_, _<_};
 ghost use lib.ListN.{length, take};

@@ -25,12 +25,12 @@ use Rattle.sheet.proofs.write_sheet.Tie as tie
 module _ (settings : Settings) (label : Label) (list bytes : List ℕ) where
   -- what a refusal leaves, and what a success writes
   refused : {why : Refusal} → writeAnswer settings list (length bytes) ≡ Refused why
-    → (Refused why ≡ writeAnswer settings list (length bytes)) × (bytes ≡ bytesAfter settings label list bytes)
+      → (Refused why ≡ writeAnswer settings list (length bytes)) × (bytes ≡ bytesAfter settings label list bytes)
   unfolding bytesAfter
   refused e = (sym e, rw (e, bytesAfter))
 
   wrote : {size : ℕ} {after : List ℕ} → writeAnswer settings list (length bytes) ≡ Wrote size → after ≡ over (sheetOf settings label list) bytes
-    → (Wrote size ≡ writeAnswer settings list (length bytes)) × (after ≡ bytesAfter settings label list bytes)
+      → (Wrote size ≡ writeAnswer settings list (length bytes)) × (after ≡ bytesAfter settings label list bytes)
   unfolding bytesAfter
   wrote e f = (sym e, rw (e, bytesAfter) f)
 
@@ -38,7 +38,7 @@ settings-right : (c : tie.Else1) → inRange (c .before .before .before .before 
 settings-right c = test-passed (c .before .in-range .ensures) (c .if1 .left)
 
 list-right : (c : tie.Else2)
-  → wellFormed (c .before .before .before .before .before .before .args .settings .minimum) (c .before .before .before .before .before .before .args .settings .maximum) (c .before .before .before .before .before .before .args .list .now) ≡ true
+    → wellFormed (c .before .before .before .before .before .before .args .settings .minimum) (c .before .before .before .before .before .before .args .settings .maximum) (c .before .before .before .before .before .before .args .list .now) ≡ true
 list-right c = test-passed (c .before .well-formed .ensures) (c .if2 .left)
 
 in-range-requires : tie.Need-in-range-requires

@@ -48,11 +48,11 @@ loop-less : tie.Need-loop-less Inv-loop μ-loop
 loop-less c = search needs
 
 loop-again : tie.Need-loop-again Inv-loop μ-loop
-loop-again c =
-    ( search needs
-    , rw (c .wide .ensures, c .before .before .before .loop .inv .1) (sym (numberAt-more _ _ _ (omega arith)))
-    , byte-more (c .before .before .before .loop .i) (c .before .before .before .loop .inv .2) (byte-read c)
-    )
+loop-again c = (
+  search needs,
+  rw (c .wide .ensures, c .before .before .before .loop .inv .1) (sym (numberAt-more _ _ _ (omega arith))),
+  byte-more (c .before .before .before .loop .i) (c .before .before .before .loop .inv .2) (byte-read c),
+)
 
 returns : tie.Need-returns Inv-loop μ-loop
 returns c = let e : c .before .loop .i ≡ c .before .before .before .args .width = omega arith in rw (← e) (c .before .loop .inv .1, c .before .loop .inv .2)

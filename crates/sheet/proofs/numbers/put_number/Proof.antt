@@ -51,11 +51,11 @@ loop-less : tie.Need-loop-less Inv-loop μ-loop
 loop-less c = search needs
 
 loop-again : tie.Need-loop-again Inv-loop μ-loop
-loop-again c =
-    ( search needs
-    , rw (c .before .loop .inv .1) (byte-written _ _ _ _ _ (c .loop-test .taken) (c .before .before .pre .1))
-    , rw length-set (c .before .loop .inv .2)
-    )
+loop-again c = (
+  search needs,
+  rw (c .before .loop .inv .1) (byte-written _ _ _ _ _ (c .loop-test .taken) (c .before .before .pre .1)),
+  rw length-set (c .before .loop .inv .2),
+)
 
 same-length : tie.Need-same-length Inv-loop μ-loop
 same-length c = search needs

@@ -51,11 +51,11 @@ loop-again : tie.Need-loop-again Inv-loop μ-loop
 loop-again c =
     let start = c .before .before .before .before .before .before .before .before .before in
     let turn = c .before .before .before .before .before .before .loop in
-    let inside = c .before .before .before .before .before .loop-test .taken in
-    ( search needs
-    , rw (length-written-more _ _ _ inside) (omega (arith, turn .inv .1))
-    , written-joined _ _ _ _ _ _ _ _ inside (omega arith) (turn .inv .1) (turn .inv .2) (c .before .before .put-number .ensures)
-    , c .before .before .put-number .kept .1 .1 .1 .0 ∙ turn .inv .3
+    let inside = c .before .before .before .before .before .loop-test .taken in (
+      search needs,
+      rw (length-written-more _ _ _ inside) (omega (arith, turn .inv .1)),
+      written-joined _ _ _ _ _ _ _ _ inside (omega arith) (turn .inv .1) (turn .inv .2) (c .before .before .put-number .ensures),
+      c .before .before .put-number .kept .1 .1 .1 .0 ∙ turn .inv .3,
     )
 
 same-length : tie.Need-same-length Inv-loop μ-loop

@@ -43,11 +43,11 @@ loop-less : tie.Need-loop-less Inv-loop μ-loop
 loop-less c = search needs
 
 loop-again : tie.Need-loop-again Inv-loop μ-loop
-loop-again c =
-    ( search needs
-    , rw (c .number-at .ensures .0, c .before .before .loop .inv .1) (offset-written 8 _ _ _ (omega arith))
-    , rw length-set (c .before .before .loop .inv .2)
-    )
+loop-again c = (
+  search needs,
+  rw (c .number-at .ensures .0, c .before .before .loop .inv .1) (offset-written 8 _ _ _ (omega arith)),
+  rw length-set (c .before .before .loop .inv .2),
+)
 
 same-length : tie.Need-same-length Inv-loop μ-loop
 same-length c = search needs

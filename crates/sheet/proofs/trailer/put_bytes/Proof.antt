@@ -37,11 +37,11 @@ loop-less : tie.Need-loop-less Inv-loop μ-loop
 loop-less c = search needs
 
 loop-again : tie.Need-loop-again Inv-loop μ-loop
-loop-again c =
-    ( search needs
-    , rw (c .before .before .loop .inv .1) (overFrom-next _ _ _ _ (c .before .loop-test .taken) (c .before .before .before .pre))
-    , rw length-set (c .before .before .loop .inv .2)
-    )
+loop-again c = (
+  search needs,
+  rw (c .before .before .loop .inv .1) (overFrom-next _ _ _ _ (c .before .loop-test .taken) (c .before .before .before .pre)),
+  rw length-set (c .before .before .loop .inv .2),
+)
 
 same-length : tie.Need-same-length Inv-loop μ-loop
 same-length c = search needs

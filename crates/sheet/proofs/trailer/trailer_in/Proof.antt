@@ -47,7 +47,7 @@ returns c =
       c .before .before .before .before .number-at3 .ensures .0,
       c .before .before .number-at4 .ensures .0,
       c .before .number-at5 .ensures .0,
-      c .number-at6 .ensures .0
+      c .number-at6 .ensures .0,
     )
 
 pub trailer-in-spec : {M : Type 1} → statement M
