@@ -1,0 +1,6 @@
+pub mod BigEndian
+pub mod CheckWord
+pub mod Same
+pub mod Offsets
+pub mod Parts
+pub mod Reading

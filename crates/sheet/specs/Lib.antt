@@ -1,0 +1,5 @@
+pub mod Numbers
+pub mod Trailer
+pub mod Sheets
+pub mod Write
+pub mod Read
