@@ -4,3 +4,4 @@ pub mod Same
 pub mod Offsets
 pub mod Parts
 pub mod Reading
+pub mod Back
