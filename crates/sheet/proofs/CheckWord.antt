@@ -27,6 +27,10 @@ pub check-is : (r : ℕ) (words : List ℕ) → r < 2 ^ 32 → (r + total words 
 unfolding checkWord
 check-is r words h e = omega arith
 
+pub checkWord-lt : (words : List ℕ) → checkWord words < 2 ^ 32
+unfolding checkWord
+checkWord-lt words = omega arith
+
 -- the last word found is compared with the right one
 module _ (sheet : List ℕ) {found right : ℕ}
     (is-found : found ≡ numberAt (length sheet - 4) 4 sheet) (is-right : right ≡ checkWord (numbersOf 4 (take (length sheet - 4) sheet))) where

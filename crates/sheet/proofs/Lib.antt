@@ -5,3 +5,4 @@ pub mod Offsets
 pub mod Parts
 pub mod Reading
 pub mod Back
+pub mod RoundTrip
