@@ -6,3 +6,4 @@ pub mod Parts
 pub mod Reading
 pub mod Back
 pub mod RoundTrip
+pub mod Promised
