@@ -7,3 +7,4 @@ pub mod Reading
 pub mod Back
 pub mod RoundTrip
 pub mod Promised
+pub mod Damage

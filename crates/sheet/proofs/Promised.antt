@@ -54,6 +54,7 @@ writable settings list room {size} e =
   where
     same-size : {a b : ℕ} → answer.Wrote a ≡ answer.Wrote b → a ≡ b
     same-size p = cc
+
     never : (why : Refusal) → writeAnswer settings list room ≡ answer.Refused why → Writable settings list room size
     never why p = let z : _≡_ {A = ℕ} 0 1 = cc in absurd (omega arith)
 
@@ -81,7 +82,7 @@ module _ (settings : Settings) (label : Label) (list bytes : List ℕ) {size : �
   module _ (before lent : List ℕ) where
     -- demand 2: a sheet that is written and then read, with any bytes before it, gives the same label, settings and list
     pub round-trip : length list ≤ length lent
-      → (readAnswer (before ++ take size (bytesAfter settings label list bytes)) label (length lent) ≡ Read (byteOf label) settings (length list))
+        → (readAnswer (before ++ take size (bytesAfter settings label list bytes)) label (length lent) ≡ Read (byteOf label) settings (length list))
         × (listAfter (before ++ take size (bytesAfter settings label list bytes)) label lent ≡ over list lent)
     unfolding listAfter
     round-trip roomy =
@@ -92,19 +93,19 @@ module _ (settings : Settings) (label : Label) (list bytes : List ℕ) {size : �
 
     -- demand 1: asked for another label than its own, a sheet is refused and nothing is written
     pub other-refused : (asked : Label) → eqb (byteOf label) (byteOf asked) ≡ false
-      → (readAnswer (before ++ take size (bytesAfter settings label list bytes)) asked (length lent) ≡ Refused OtherLabel)
+        → (readAnswer (before ++ take size (bytesAfter settings label list bytes)) asked (length lent) ≡ Refused OtherLabel)
         × (listAfter (before ++ take size (bytesAfter settings label list bytes)) asked lent ≡ lent)
     unfolding listAfter trailerFor
     other-refused asked other =
         let w = writable settings list (length bytes) wrote in
         let f = found settings label list before (w .in-range) (w .well-formed) (w .few) in
         let refusal : readAnswer (before ++ sheetOf settings label list) asked (length lent) ≡ Refused OtherLabel =
-            judged _ asked (length lent) (f .present) (f .right) (f .sound) (f .listed) ∙ rw (f .trailer) (simp other) in
+        judged _ asked (length lent) (f .present) (f .right) (f .sound) (f .listed) ∙ rw (f .trailer) (simp other) in
         rw written-there (refusal, rw (refusal, listAfter))
 
 -- demand 1: what is read when live is asked bears L, in the answer and in the trailer's bytes
 pub live-is-live : (bytes : List ℕ) (room : ℕ) {label count : ℕ} {settings : Settings} → readAnswer bytes Live room ≡ Read label settings count
-  → (label ≡ byteOf Live) × (getD (trailerBytes bytes) 4 0 ≡ byteOf Live)
+    → (label ≡ byteOf Live) × (getD (trailerBytes bytes) 4 0 ≡ byteOf Live)
 unfolding trailerOf trailerIn
 live-is-live bytes room {label} {count} {settings} e =
     let a = accepts bytes Live room (λ why r. never why (sym r ∙ e)) in
@@ -113,5 +114,6 @@ live-is-live bytes room {label} {count} {settings} e =
   where
     never : (why : Refusal) → Refused why ≡ Read label settings count → ⊥
     never why p = let z : _≡_ {A = ℕ} 0 1 = cc in omega arith
+
     same-label : {l m : ℕ} {s r : Settings} {c d : ℕ} → Read l s c ≡ Read m r d → l ≡ m
     same-label p = cc

@@ -33,7 +33,7 @@ use Rattle.sheet.proofs.Parts.{length-fields, length-front}
 
 -- past an entry the rest of a list fits, and the entry rises
 step-taken : (minimum maximum before entry : ℕ) (rest : List ℕ) → stepsFit minimum maximum before (entry ∷ rest) ≡ true
-  → (before < entry) × (stepsFit minimum maximum entry rest ≡ true)
+    → (before < entry) × (stepsFit minimum maximum entry rest ≡ true)
 unfolding stepsFit stepFits
 step-taken minimum maximum before entry rest h = let halves = both-true h in (ltb-true _ _ (both-true (halves .0) .0), halves .1)
 
@@ -72,7 +72,7 @@ trailer-back t rest ok zeros count distance =
       settings = record { bits = t .settings .bits; target = target i; minimum = minimum i; maximum = maximum i };
       zeros = zero-bytes i;
       count = cuts i;
-      distance = back i
+      distance = back i;
     }
 
 -- where the parts of a sheet stand, with any bytes before it
@@ -82,14 +82,14 @@ module _ (before body front word : List ℕ) (has-fields : length front ≡ 28) 
   trailer-part =
       let regroup : before ++ (body ++ front ++ word) ≡ before ++ body ++ (front ++ word) = simp append-assoc in
       let place : length (before ++ body ++ (front ++ word)) - 32 ≡ length (before ++ body) =
-          rw (length-append (before ++ body) (front ++ word), length-append front word, has-fields, has-word) (omega arith) in
+      rw (length-append (before ++ body) (front ++ word), length-append front word, has-fields, has-word) (omega arith) in
       rw (regroup, place) (drop-append-seam (before ++ body) (front ++ word))
 
   pub sheet-part : trailerOf (before ++ (body ++ front ++ word)) .distance ≡ length body → sheetIn (before ++ (body ++ front ++ word)) ≡ body ++ front ++ word
   unfolding sheetIn
   sheet-part e =
       let place : length (before ++ (body ++ front ++ word)) - 32 - length body ≡ length before =
-          rw (length-append before (body ++ front ++ word), length-append (body ++ front) word, length-append body front, has-fields, has-word) (omega arith) in
+      rw (length-append before (body ++ front ++ word), length-append (body ++ front) word, length-append body front, has-fields, has-word) (omega arith) in
       rw (e, place) (drop-append-seam before (body ++ front ++ word))
 
   pub list-part : trailerOf (before ++ (body ++ front ++ word)) .distance ≡ length body → listIn (before ++ (body ++ front ++ word)) ≡ numbersOf 8 body
@@ -108,7 +108,7 @@ checked-with front =
     let size : length word ≡ 4 = length-bigEndian 4 (checkWord (numbersOf 4 front)) in
     let place : length (front ++ word) - 4 ≡ length front = rw (length-append, size) (omega arith) in
     let found : numberAt (length front) 4 (front ++ word) ≡ checkWord (numbersOf 4 front) =
-        numberAt-end front word (omega arith) ∙ numberAt-back 4 _ (checkWord-lt (numbersOf 4 front)) in
+    numberAt-end front word (omega arith) ∙ numberAt-back 4 _ (checkWord-lt (numbersOf 4 front)) in
     rw (place, take-append-seam front word, found) (eq-eqb (checkWord (numbersOf 4 front)) _ refl)
 
 label-known : (label : Label) → isLabel (byteOf label) ≡ true
@@ -121,7 +121,7 @@ unfolding hasTrailer fields same
 present-for bytes rest t h e = rw (le-leb 32 (length bytes) h, e)
 
 right-for : (settings : Settings) (label : Label) (count before : ℕ) → inRange settings ≡ true → count ≤ mostCuts → 8 * count ≤ before
-  → trailerRight before (trailerFor settings label count) ≡ true
+    → trailerRight before (trailerFor settings label count) ≡ true
 unfolding trailerRight trailerFor
 right-for settings label count before ok few room =
     simp (label-known label, ok, le-leb count mostCuts few, eq-eqb (8 * count) (8 * count) refl, le-leb (8 * count) before room)
@@ -143,7 +143,7 @@ pub record Found (settings : Settings) (label : Label) (list bytes : List ℕ) :
   pub listed : hasList bytes ≡ true
 
 module _ (settings : Settings) (label : Label) (list before : List ℕ)
-  (in-range : inRange settings ≡ true) (well-formed : wellFormed (settings .minimum) (settings .maximum) list ≡ true) (few : length list ≤ mostCuts) where
+    (in-range : inRange settings ≡ true) (well-formed : wellFormed (settings .minimum) (settings .maximum) list ≡ true) (few : length list ≤ mostCuts) where
   pub found : Found settings label list (before ++ sheetOf settings label list)
   unfolding sheetOf withCheck trailerOf trailerFor hasList hasTrailer wellFormed trailerRight
   found =
@@ -156,17 +156,17 @@ module _ (settings : Settings) (label : Label) (list before : List ℕ)
       let trailer : trailerOf bytes ≡ t = rw part (trailer-back t word in-range (lit< tt) few (omega arith)) in
       let distance : trailerOf bytes .distance ≡ length body = ap (λ (x : Trailer). x .distance) trailer ∙ sym (length-written 8 list) in
       let the-list : listIn bytes ≡ list =
-          list-part before body (fields t) word (length-fields t) has-word distance
-          ∙ list-back list (entries-wide (settings .minimum) (settings .maximum) 0 list well-formed) in
+      list-part before body (fields t) word (length-fields t) has-word distance
+      ∙ list-back list (entries-wide (settings .minimum) (settings .maximum) 0 list well-formed) in
       let size : length bytes ≡ length before + 8 * length list + 32 =
-          rw (length-append before (body ++ fields t ++ word), length-append (body ++ fields t) word, length-front, has-word) (omega arith) in
+      rw (length-append before (body ++ fields t ++ word), length-append (body ++ fields t) word, length-front, has-word) (omega arith) in
       record {
         present = present-for bytes word t (omega (arith, size)) part;
         trailer = trailer;
         right = rw trailer (right-for settings label (length list) (length bytes - 32) in-range few (omega (arith, size)));
         sound = rw (sheet-part before body (fields t) word (length-fields t) has-word distance) (checked-with (body ++ fields t));
         the-list = the-list;
-        listed = rw (the-list, trailer) well-formed
+        listed = rw (the-list, trailer) well-formed;
       }
 
   module _ (room : ℕ) (roomy : length list ≤ room) where
