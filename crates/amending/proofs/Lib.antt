@@ -14,3 +14,4 @@ pub mod Edits
 pub mod Looking
 pub mod Recuts
 pub mod Written
+pub mod OverBytes
