@@ -15,3 +15,4 @@ pub mod Looking
 pub mod Recuts
 pub mod Written
 pub mod OverBytes
+pub mod Figures

@@ -12,6 +12,7 @@ use borrow.Author.Tests.{lt-leb}
 use Rattle.laws.proofs.Cases.{by-lt, by-test}
 use Rattle.laws.specs.Last.{lastOr}
 use Rattle.terms.specs.declared.Settings.{Settings}
+use Rattle.terms.specs.declared.Refusal.the-variants.{SettingsOutOfRange, LogTooLong, RoomTooShort, ListNotWellFormed, EditOutOfRange}
 use Rattle.terms.specs.Settings.{inRange}
 use Rattle.terms.specs.Answers.{longest, roomFor, unless}
 use Rattle.terms.proofs.Ranges.{ranges}
@@ -21,6 +22,7 @@ use Rattle.signature.specs.Signatures.{window}
 use Rattle.cutting.specs.Marks.{mark, cutList}
 use Rattle.cutting.specs.WholeLog.{writtenList, cutLogList}
 use Rattle.cutting.proofs.Marked.{marks-agree}
+use Rattle.amending.specs.declared.Amendment.the-variants.{Refused}
 use Rattle.amending.specs.Parts.{front, pastFront, restart, stretchEnd, recut, back, amendedList}
 use Rattle.amending.specs.Told.{FrontTold, Recut}
 use Rattle.amending.specs.Answers.{newCutsOf, editFits, partsAnswer, amendAnswer, amendList}
@@ -107,8 +109,8 @@ restart-inside old s d e bytes fits =
     omega arith
 
 -- two rows alike: one test, and what follows where it passes
-rows : {A : Type 0} {t t′ : Bool} (refused : A) {x y : A} → t ≡ t′ → (t ≡ true → x ≡ y) → unless t refused x ≡ unless t′ refused y
-rows {t = t} refused {x} {y} e same = by-test t (λ h. rw (← e, h) (same h)) (λ h. rw (← e, h))
+rows : {A : Type 0} (t t′ : Bool) (refused : A) {x y : A} → t ≡ t′ → (t ≡ true → x ≡ y) → unless t refused x ≡ unless t′ refused y
+rows t t′ refused e same = by-test t (λ h. rw (← e, h) (same h)) (λ h. rw (← e, h))
 
 -- the answer and the list are made of the two parts
 parts-decide : (newCuts newCuts′ : ℕ → List ℕ) (old : List ℕ) (s d e : ℕ) → recut newCuts old s d e ≡ recut newCuts′ old s d e → back newCuts old s d e ≡ back newCuts′ old s d e
@@ -134,18 +136,29 @@ module _ (settings : Settings) (old : List ℕ) (s d e : ℕ) (log log′ : List
       (sym (back-same (mark settings log) (mark settings log′) (settings .minimum) (settings .maximum) (length log) positive (in-range .ordered) old s d e inside marks)
       ∙ ap (λ n. back (cutsFrom (mark settings log′) (settings .minimum) (settings .maximum) n) old s d e) same)
 
+  -- the rows of the call, which see no more of the log than its length
+  alike : {A : Type 0} (settings-bad list-bad edit-bad long-bad room-bad : A) (room : ℕ) {x y : A}
+      → (inRange settings ≡ true → editFits (lengthOf old) s d e (length log) ≡ true → x ≡ y)
+      → unless (inRange settings) settings-bad (unless (wellFormed (settings .minimum) (settings .maximum) old) list-bad (unless (editFits (lengthOf old) s d e (length log)) edit-bad
+      (unless (leb (length log) longest) long-bad (unless (leb (roomFor (settings .minimum) (length log)) room) room-bad x))))
+      ≡ unless (inRange settings) settings-bad (unless (wellFormed (settings .minimum) (settings .maximum) old) list-bad (unless (editFits (lengthOf old) s d e (length log′)) edit-bad
+      (unless (leb (length log′) longest) long-bad (unless (leb (roomFor (settings .minimum) (length log′)) room) room-bad y))))
+  alike settings-bad list-bad edit-bad long-bad room-bad room follows =
+      rows (inRange settings) (inRange settings) settings-bad refl
+      (λ ok. rows (wellFormed (settings .minimum) (settings .maximum) old) (wellFormed (settings .minimum) (settings .maximum) old) list-bad refl
+      (λ formed. rows (editFits (lengthOf old) s d e (length log)) (editFits (lengthOf old) s d e (length log′)) edit-bad (ap (editFits (lengthOf old) s d e) same)
+      (λ fits. rows (leb (length log) longest) (leb (length log′) longest) long-bad (ap (λ n. leb n longest) same)
+      (λ short. rows (leb (roomFor (settings .minimum) (length log)) room) (leb (roomFor (settings .minimum) (length log′)) room) room-bad (ap (λ n. leb (roomFor (settings .minimum) n) room) same)
+      (λ wide. follows ok fits)))))
+
   pub stretch-only-answer : (room : ℕ) → amendAnswer settings old s d e log room ≡ amendAnswer settings old s d e log′ room
   unfolding amendAnswer
   stretch-only-answer room =
-      rows _ refl (λ ok. rows _ refl (λ formed. rows _ (ap (editFits (lengthOf old) s d e) same)
-      (λ fits. rows _ (ap (λ n. leb n longest) same) (λ short. rows _ (ap (λ n. leb (roomFor (settings .minimum) n) room) same) (λ wide. parts-same ok fits .1 room)))))
+      alike (Refused SettingsOutOfRange) (Refused ListNotWellFormed) (Refused EditOutOfRange) (Refused LogTooLong) (Refused RoomTooShort) room (λ ok fits. parts-same ok fits .1 room)
 
   pub stretch-only-list : (list : List ℕ) → amendList settings old s d e log list ≡ amendList settings old s d e log′ list
   unfolding amendList
-  stretch-only-list list =
-      rows _ refl (λ ok. rows _ refl (λ formed. rows _ (ap (editFits (lengthOf old) s d e) same)
-      (λ fits. rows _ (ap (λ n. leb n longest) same) (λ short. rows _ (ap (λ n. leb (roomFor (settings .minimum) n) (length list)) same)
-      (λ wide. ap (λ l. writtenList l list) (parts-same ok fits .0))))))
+  stretch-only-list list = alike list list list list list (length list) (λ ok fits. ap (λ l. writtenList l list) (parts-same ok fits .0))
 
 -- any old list that is well formed, and an edit that fits it
 module _ (settings : Settings) (old : List ℕ) (s d e : ℕ) (log : List ℕ) (ok : inRange settings ≡ true)
@@ -194,7 +207,7 @@ pub amend-cuts-afresh : (settings : Settings) (a del ins b list : List ℕ) → 
     → amendList settings (cutList settings (a ++ (del ++ b))) (length a) (length del) (length ins) (a ++ (ins ++ b)) list ≡ cutLogList settings (a ++ (ins ++ b)) list
 unfolding amendList cutLogList
 amend-cuts-afresh settings a del ins b list short =
-    rows list refl (λ ok.
+    rows (inRange settings) (inRange settings) list refl (λ ok.
     let known = true-list settings (a ++ (del ++ b)) ok short in
     let long : length (a ++ (del ++ b)) ≡ length a + (length del + length b) = simp length-append in
     let long′ : length (a ++ (ins ++ b)) ≡ length a + (length ins + length b) = simp length-append in
