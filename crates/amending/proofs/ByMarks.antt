@@ -1,11 +1,9 @@
 -- Amending under the one-pass rule: two logs that are marked alike up to the change, and alike past it with the window behind it.
-use Prim.Native.Nat.{ℕ, zero, suc, _+_, _-_, _≤_, _<_}
-use mathlib.Core.Path.{_≡_, refl, sym, ap, _∙_}
-use mathlib.Core.Bool.{Bool, true, false}
-use mathlib.Core.List.{List, [], _∷_, _++_}
+use Prim.Native.Nat.{ℕ, _+_, _≤_}
+use mathlib.Core.Path.{_≡_}
+use mathlib.Core.Bool.{Bool}
 use native.Mathlib.Omega.{arith}
-use Rattle.rule.specs.Rule.{next, chain, cutsFrom, cuts}
-use Rattle.rule.proofs.Chain.{Rising}
+use Rattle.rule.specs.Rule.{next, cutsFrom, cuts}
 use Rattle.rule.proofs.Next.{next-moves, next-kept, rising}
 use Rattle.amending.specs.Parts.{amendedList}
 use Rattle.amending.proofs.Amended.{amended}

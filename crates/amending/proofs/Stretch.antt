@@ -1,16 +1,15 @@
 -- New bytes outside the recut stretch cannot alter the answer: two new logs of one length whose next cuts agree up to the stretch's end
 -- have the same recut and the same back.
-use Prim.Native.Nat.{ℕ, zero, suc, _+_, _-_, _≤_, _<_}
+use Prim.Native.Nat.{ℕ, _+_, _-_, _≤_, _<_}
 use mathlib.Core.Path.{_≡_, refl, sym, ap, _∙_, subst}
-use mathlib.Core.Bool.{Bool, true, false}
-use mathlib.Core.List.{List, [], _∷_, _++_, append-nil, append-assoc}
+use mathlib.Core.Bool.{Bool}
+use mathlib.Core.List.{List, [], _∷_, _++_, append-assoc}
 use native.Mathlib.Omega.{arith}
-use Rattle.laws.specs.Last.{lastOr}
 use Rattle.rule.specs.Rule.{next, chain, cutsFrom, NextCut, first-mark, forced, log-ends}
 use Rattle.rule.proofs.Chain.{Run, stay, onward, Rising, parted, whole, run-joined}
 use Rattle.rule.proofs.Next.{next-is, next-only, rising}
-use Rattle.amending.specs.Parts.{pastFront, restart, before, since, meets, backFrom, firstOr, recut, back, amendedList, stretchEnd}
-use Rattle.amending.proofs.Split.{Split, nowhere, here, later, split, joined, heads, before-is, since-is}
+use Rattle.amending.specs.Parts.{pastFront, restart, before, since, meets, backFrom, firstOr, recut, back, stretchEnd}
+use Rattle.amending.proofs.Split.{Split, here, later, split, joined, before-is, since-is}
 use Rattle.amending.proofs.Runs.{run-front, run-after, run-head, run-all, run-kept-from}
 
 -- the same front and the same first passing entry, whatever comes after it
