@@ -42,16 +42,23 @@ unfolding fields trailerIn written
 fields-back l h long marked =
     let signs : take 4 (drop 4 l) ≡ getD l 4 0 ∷ getD l 5 0 ∷ take 2 (drop 6 l) = rw (drop-cons l 4 0 (omega arith), drop-cons l 5 0 (omega arith)) in
     let sizes : take 20 (drop 8 l) ≡ take 4 (drop 8 l) ++ (take 4 (drop 12 l) ++ (take 4 (drop 16 l) ++ (take 4 (drop 20 l) ++ (take 4 (drop 24 l) ++ [])))) =
-        cut 8 4 16 l ∙ rw (cut 12 4 12 l, cut 16 4 8 l, cut 20 4 4 l, append-nil) in
+    cut 8 4 16 l ∙ rw (cut 12 4 12 l, cut 16 4 8 l, cut 20 4 4 l, append-nil) in
     let whole : take 28 l ≡ mark ++ ((getD l 4 0 ∷ getD l 5 0 ∷ take 2 (drop 6 l)) ++ take 20 (drop 8 l)) =
-        cut 0 4 24 l ∙ rw (← (same-true mark (take 4 l) marked), cut 4 4 20 l, signs) in
-    rw (whole, sizes,
-      bigEndian-numberAt 6 2 l h (omega arith), bigEndian-numberAt 8 4 l h (omega arith), bigEndian-numberAt 12 4 l h (omega arith),
-      bigEndian-numberAt 16 4 l h (omega arith), bigEndian-numberAt 20 4 l h (omega arith), bigEndian-numberAt 24 4 l h (omega arith))
+    cut 0 4 24 l ∙ rw (← (same-true mark (take 4 l) marked), cut 4 4 20 l, signs) in
+    rw (
+      whole,
+      sizes,
+      bigEndian-numberAt 6 2 l h (omega arith),
+      bigEndian-numberAt 8 4 l h (omega arith),
+      bigEndian-numberAt 12 4 l h (omega arith),
+      bigEndian-numberAt 16 4 l h (omega arith),
+      bigEndian-numberAt 20 4 l h (omega arith),
+      bigEndian-numberAt 24 4 l h (omega arith),
+    )
 
 -- marked and checked bytes of a sheet's size are a body, the fields that stand in them, and their check word
 sheet-back : (sheet : List ℕ) (n : ℕ) → Bytes sheet → length sheet ≡ 8 * n + 32 → same mark (take 4 (drop (8 * n) sheet)) ≡ true → checked sheet ≡ true
-  → sheet ≡ withCheck (written 8 (numbersOf 8 (take (8 * n) sheet)) ++ fields (trailerIn (drop (8 * n) sheet)))
+    → sheet ≡ withCheck (written 8 (numbersOf 8 (take (8 * n) sheet)) ++ fields (trailerIn (drop (8 * n) sheet)))
 unfolding withCheck checked numbersOf
 sheet-back sheet n h long marked ok =
     let body = take (8 * n) sheet in
@@ -59,14 +66,14 @@ sheet-back sheet n h long marked ok =
     let many : length body / 8 ≡ n = rw size (mul-div-cancel-left n {n = 8} (lit< tt)) in
     let offsets : written 8 (numbersOf 8 body) ≡ body = rw many (written-numbers 8 n body (part-bytes sheet 0 (8 * n) h) size) in
     let trailer : fields (trailerIn (drop (8 * n) sheet)) ≡ take 28 (drop (8 * n) sheet) =
-        fields-back (drop (8 * n) sheet) (drop-bytes (8 * n) sheet h) (rw length-drop (omega arith)) marked in
+    fields-back (drop (8 * n) sheet) (drop-bytes (8 * n) sheet h) (rw length-drop (omega arith)) marked in
     let front : written 8 (numbersOf 8 body) ++ fields (trailerIn (drop (8 * n) sheet)) ≡ take (8 * n + 28) sheet =
-        rw (offsets, trailer) (sym (take-add (8 * n) 28 sheet)) in
+    rw (offsets, trailer) (sym (take-add (8 * n) 28 sheet)) in
     let place : length sheet - 4 ≡ 8 * n + 28 = omega arith in
     let right : numberAt (length sheet - 4) 4 sheet ≡ checkWord (numbersOf 4 (take (length sheet - 4) sheet)) = eqb-true _ _ ok in
     let right′ : numberAt (8 * n + 28) 4 sheet ≡ checkWord (numbersOf 4 (take (8 * n + 28) sheet)) = rw place at right in
     let word : bigEndian 4 (checkWord (numbersOf 4 (take (8 * n + 28) sheet))) ≡ drop (8 * n + 28) sheet =
-        rw (← right′) (bigEndian-numberAt (8 * n + 28) 4 sheet h (omega arith) ∙ take-all 4 (drop (8 * n + 28) sheet) (rw length-drop (omega arith))) in
+    rw (← right′) (bigEndian-numberAt (8 * n + 28) 4 sheet h (omega arith) ∙ take-all 4 (drop (8 * n + 28) sheet) (rw length-drop (omega arith))) in
     rw (front, word) (sym (take-append-drop (8 * n + 28) sheet))
 
 module _ (bytes : List ℕ) (h : Bytes bytes) (asked : Label) (room : ℕ) (a : Accepts bytes asked room) where
@@ -95,12 +102,12 @@ module _ (bytes : List ℕ) (h : Bytes bytes) (asked : Label) (room : ℕ) (a : 
       let many : length (take (t .distance) sheet) / 8 ≡ t .count = rw (size, r .distance) (mul-div-cancel-left (t .count) {n = 8} (lit< tt)) in
       let counted : length (numbersOf 8 (take (t .distance) sheet)) ≡ t .count = rw many (length-numbers 8 (t .count) (take (t .distance) sheet)) in
       let trailer : trailerIn (drop (8 * t .count) sheet) ≡ trailerFor (t .settings) asked (length (numbersOf 8 (take (t .distance) sheet))) =
-          ap trailerIn last ∙ trailer-made ∙ ap (trailerFor (t .settings) asked) (sym counted) in
+      ap trailerIn last ∙ trailer-made ∙ ap (trailerFor (t .settings) asked) (sym counted) in
       made ∙ ap₂ (λ (l : List ℕ) (x : Trailer). withCheck (written 8 (numbersOf 8 l) ++ fields x)) body trailer
 
 -- settings, list and label fix every byte: what reads is what the writer writes for them
 pub canonical : (bytes : List ℕ) (asked : Label) (room : ℕ) {label count : ℕ} {settings : Settings} → Bytes bytes → readAnswer bytes asked room ≡ Read label settings count
-  → sheetIn bytes ≡ sheetOf settings asked (listIn bytes)
+    → sheetIn bytes ≡ sheetOf settings asked (listIn bytes)
 canonical bytes asked room h e =
     let a = read-accepts bytes asked room e in
     rw (same-settings (sym (read-is bytes asked room a) ∙ e)) at (accepted-made bytes h asked room a)

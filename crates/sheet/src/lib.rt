@@ -124,7 +124,8 @@ pub fn read_sheet(bytes: &[u8], asked: Label, list: &mut [u64]) -> Sheet
         return Sheet::Refused(Refusal::ListNotWellFormed);
     }
     let label = trailer.label;
-    if label != asked.byte() {
+    let wanted = asked.byte();
+    if label != wanted {
         return Sheet::Refused(Refusal::OtherLabel);
     }
     let count = trailer.count;
