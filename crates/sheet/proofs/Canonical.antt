@@ -1,11 +1,11 @@
 -- A sheet is canonical: what reads is, byte for byte, what the writer writes for that label, those settings and that list.
 use mathlib.Core.Path.{_≡_, refl, sym, ap, ap₂, _∙_}
-use mathlib.Core.Bool.{true, false}
-use mathlib.Core.List.{List, [], _∷_, _++_, append-assoc, append-nil}
-use Prim.Native.Nat.{ℕ, suc, _+_, _-_, _*_, _/_, _≤_, _<_}
+use mathlib.Core.Bool.{true}
+use mathlib.Core.List.{List, [], _∷_, _++_, append-nil}
+use Prim.Native.Nat.{ℕ, _+_, _-_, _*_, _/_, _≤_}
 use native.Mathlib.Omega.{arith}
-use native.Mathlib.Nat.{mul-div-cancel-left, le-refl}
-use lib.Dec.{eqb, lit<, lit≤}
+use native.Mathlib.Nat.{mul-div-cancel-left}
+use lib.Dec.{eqb, lit<}
 use lib.ListN.{length, take, drop, getD, length-drop, take-append-drop}
 use lib.Seq.{drop-cons, drop-drop, take-add, take-all, length-take-le}
 use borrow.Author.Tests.{leb-true, eqb-true}

@@ -1,7 +1,7 @@
 -- A damaged word of a sheet is always refused: a wrong count or distance no longer agree with each other, and any other word
 -- makes the sum of all words other than zero.
 use mathlib.Core.Path.{_≡_, refl, sym, ap, _∙_}
-use mathlib.Core.Bool.{true, false}
+use mathlib.Core.Bool.{true}
 use mathlib.Core.List.{List, [], _∷_, _++_, append-nil}
 use Prim.Native.Nat.{ℕ, zero, suc, _+_, _-_, _*_, _/_, _%_, _^_, _≤_, _<_}
 use native.Mathlib.Omega.{arith}
@@ -10,7 +10,7 @@ use lib.Dec.{eqb, lit<}
 use lib.ListN.{length, take, drop, getD, set, length-append, length-set, length-drop}
 use lib.Seq.{drop-append-add, drop-append-seam, getD-drop, getD-set-same, getD-set-other}
 use borrow.Author.Tests.{eqb-true, eqb-false, lt-ltb}
-use Rattle.laws.proofs.Cases.{by-test, by-lt}
+use Rattle.laws.proofs.Cases.{by-test}
 use Rattle.terms.specs.declared.Settings.{Settings}
 use Rattle.terms.specs.declared.Label.{Label}
 use Rattle.terms.specs.declared.Label.the-variants.{Practice, Live}

@@ -1,5 +1,5 @@
 -- What writing and reading a sheet promise of each other: the round trip, live is live, and the words add to zero.
-use mathlib.Core.Path.{_≡_, refl, sym, ap, _∙_}
+use mathlib.Core.Path.{_≡_, sym, _∙_}
 use mathlib.Core.Bool.{true, false}
 use mathlib.Core.List.{List, _++_}
 use Prim.Native.Nat.{ℕ, _+_, _*_, _%_, _^_, _≤_}
@@ -12,7 +12,7 @@ use Rattle.laws.proofs.Writing.{take-over}
 use Rattle.laws.specs.Over.{over}
 use Rattle.terms.specs.declared.Settings.{Settings}
 use Rattle.terms.specs.declared.Label.{Label}
-use Rattle.terms.specs.declared.Label.the-variants.{Practice, Live}
+use Rattle.terms.specs.declared.Label.the-variants.{Live}
 use Rattle.terms.specs.declared.Answer.the-variants as answer
 use Rattle.terms.specs.declared.Refusal.{Refusal}
 use Rattle.terms.specs.declared.Refusal.the-variants.{SettingsOutOfRange, ListNotWellFormed, TooManyCuts, RoomTooShort, OtherLabel}
@@ -24,7 +24,7 @@ use Rattle.sheet.specs.Numbers.{written, numbersOf}
 use Rattle.sheet.specs.Trailer.{mostCuts, trailerFor, fields, trailerIn}
 use Rattle.sheet.specs.Sheets.{total, withCheck, sheetOf}
 use Rattle.sheet.specs.Write.{writeAnswer, bytesAfter}
-use Rattle.sheet.specs.Read.{trailerBytes, trailerOf, listIn, readAnswer, listAfter}
+use Rattle.sheet.specs.Read.{trailerBytes, trailerOf, readAnswer, listAfter}
 use Rattle.sheet.proofs.BigEndian.{length-bigEndian}
 use Rattle.sheet.proofs.Parts.{length-front}
 use Rattle.sheet.proofs.Reading.{read-accepts, read-is, judged}

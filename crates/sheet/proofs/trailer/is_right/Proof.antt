@@ -7,10 +7,6 @@ use Rattle.sheet.specs.Trailer.{isLabel, trailerRight}
 use Rattle.terms.specs.Settings.{inRange}
 use Rattle.sheet.proofs.trailer.is_right.Statement.{statement}
 use Rattle.sheet.proofs.trailer.is_right.Tie as tie
-use Rattle.sheet.proofs.trailer.is_right.Reads as reads
-use Rattle.sheet.proofs.trailer.is_right.Lts as lts
-use Rattle.sheet.proofs.trailer.is_label.Reads as is-label-reads
-use Rattle.terms.proofs.Settings.in_range.Reads as in-range-reads
 
 is-label-requires : tie.Need-is-label-requires
 is-label-requires c κs = search needs
