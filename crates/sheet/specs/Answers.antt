@@ -1,16 +1,15 @@
--- What stands beside an answer of reading, as document 01's "Numbers answered" counts it.
+-- What stands beside the reader's answer, as document 01's "Numbers answered" counts it: the number, 0 for a success, and the label's byte, the
+-- settings and the count, each 0 beside a refusal.
 use Prim.Native.Nat.{ℕ}
 use Rattle.terms.specs.declared.Settings.{Settings}
 use Rattle.terms.specs.Refusals.{numberOf}
 use Rattle.sheet.specs.declared.Sheet.{Sheet}
 use Rattle.sheet.specs.declared.Sheet.the-variants.{Read, Refused}
 
--- the number answered; 0 stands beside a success
 unfoldable pub sheetNumber : Sheet → ℕ
 sheetNumber (Read label settings count) = 0
 sheetNumber (Refused why) = numberOf why
 
--- the label's byte, the settings and the number of cuts; each 0 beside a refusal
 unfoldable pub sheetLabel : Sheet → ℕ
 sheetLabel (Read label settings count) = label
 sheetLabel (Refused why) = 0
