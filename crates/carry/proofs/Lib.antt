@@ -1,0 +1,5 @@
+pub mod Bytes
+pub mod Parts
+pub mod Room
+pub mod Prefix
+pub mod SinglePass

@@ -1,0 +1,3 @@
+pub mod Carries
+pub mod Calls
+pub mod SinglePass
