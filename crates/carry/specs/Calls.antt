@@ -3,7 +3,7 @@ use Prim.Native.Nat.{ℕ, _+_}
 use mathlib.Core.Bool.{Bool, true, false, not}
 use mathlib.Core.List.{List, [], _∷_}
 use lib.Dec.{leb, ltb}
-use lib.ListN.{length, replicate}
+use lib.ListN.{length}
 use Rattle.terms.specs.declared.Settings.{Settings}
 use Rattle.terms.specs.declared.Answer.the-variants.{Wrote, Refused}
 use Rattle.terms.specs.declared.Refusal.{Refusal}
@@ -23,16 +23,8 @@ abbrev pub wrote : Carry → ℕ → Outcome
 wrote c n = record { answer = Wrote n; carry = c }
 
 -- a carry with every part 0
-unfoldable pub noCarry : Carry
-noCarry =
-    record {
-      settings = record { bits = 0; target = 0; minimum = 0; maximum = 0 };
-      taken = 0;
-      since = 0;
-      window = replicate 48 0;
-      signature = 0;
-      closed = false;
-    }
+abbrev pub noCarry : Carry
+noCarry = freshCarry (record { bits = 0; target = 0; minimum = 0; maximum = 0 })
 
 -- fresh: 1
 unfoldable pub freshOf : Settings → Outcome
