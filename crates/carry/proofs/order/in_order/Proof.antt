@@ -73,7 +73,7 @@ left c =
     )
 
 returns-4 : tie.Need-returns-4
-returns-4 c = sym (left (c .before) ∙ ap (λ t. t && leb (entry (c .before) .taken) longest) (not-true _ (c .if4 .taken)))
+returns-4 c = sym (left (c .before) ∙ ap (λ t. t && leb (entry (c .before) .taken) longest) (not-true (c .before .all-zero .result) (c .if4 .taken)))
 
 returns-5 : tie.Need-returns-5
 returns-5 c = sym (left (c .before .before) ∙ ap₂ _&&_ (not-false _ (c .before .if4 .left)) (lt-leb _ _ (c .if5 .taken)))
