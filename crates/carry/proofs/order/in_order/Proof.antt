@@ -76,10 +76,10 @@ returns-4 : tie.Need-returns-4
 returns-4 c = sym (left (c .before) ∙ ap (λ t. t && leb (entry (c .before) .taken) longest) (not-true (c .before .all-zero .result) (c .if4 .taken)))
 
 returns-5 : tie.Need-returns-5
-returns-5 c = sym (left (c .before .before) ∙ ap₂ _&&_ (not-false _ (c .before .if4 .left)) (lt-leb _ _ (c .if5 .taken)))
+returns-5 c = sym (left (c .before .before) ∙ ap₂ _&&_ (not-false (c .before .before .all-zero .result) (c .before .if4 .left)) (lt-leb _ _ (c .if5 .taken)))
 
 returns-6 : tie.Need-returns-6
-returns-6 c = sym (left (c .before .before) ∙ ap₂ _&&_ (not-false _ (c .before .if4 .left)) (le-leb _ _ (c .if5 .left)))
+returns-6 c = sym (left (c .before .before) ∙ ap₂ _&&_ (not-false (c .before .before .all-zero .result) (c .before .if4 .left)) (le-leb _ _ (c .if5 .left)))
 
 pub in-order-spec : {M : Type 1} → statement M
 in-order-spec =
