@@ -1,7 +1,9 @@
 // The single pass: a log cut as it arrives, block by block, with what is carried from one block to the next.
 ghost use mathlib.Core.Path.{_≡_};
 ghost use Rattle.carry.specs.Carries.{freshCarry};
-ghost use Rattle.carry.specs.Calls.{freshOf};
+ghost use lib.ListN.{length};
+ghost use Rattle.carry.specs.Calls.{refused, closedCarry, freshOf, closeOf, closeList};
+use order::Verdict;
 use terms::Answer;
 use terms::Refusal;
 use terms::Settings;
@@ -40,6 +42,16 @@ fn untouched(settings: Settings) -> Carry
     }
 }
 
+// A refusal hands the carry back as it was.
+fn refuse(carry: Carry, why: Refusal) -> Outcome
+    ensures { λ r. ⌜ r ≡ refused carry why ⌝ }
+{
+    Outcome {
+        answer: Answer::Refused(why),
+        carry: carry,
+    }
+}
+
 // The carry that a log starts with.
 pub fn fresh(settings: Settings) -> Outcome
     ensures { λ r. ⌜ r ≡ freshOf settings ⌝ }
@@ -59,5 +71,45 @@ pub fn fresh(settings: Settings) -> Outcome
     Outcome {
         answer: Answer::Wrote(0),
         carry: untouched(settings),
+    }
+}
+
+fn shut(carry: Carry) -> Carry
+    ensures { λ r. ⌜ r ≡ closedCarry carry ⌝ }
+{
+    let settings = carry.settings;
+    let window = carry.window;
+    Carry {
+        settings: settings,
+        taken: carry.taken,
+        since: carry.since,
+        window: window,
+        signature: carry.signature,
+        closed: true,
+    }
+}
+
+// Ends the log: its end is written where it is not yet a cut.
+pub fn close(carry: Carry, list: &mut [u64]) -> Outcome
+    ensures { λ r. ⌜ r ≡ closeOf carry (length (now (list .entry))) ⌝ }
+    ensures { λ _. ⌜ now (list .exit) ≡ closeList carry (now (list .entry)) ⌝ }
+{
+    let verdict = order::judge(carry);
+    if let Verdict::Wrong(why) = verdict {
+        return refuse(carry, why);
+    }
+    if list.len() < 1 {
+        return refuse(carry, Refusal::RoomTooShort);
+    }
+    if carry.since > 0 {
+        list[0] = carry.taken;
+        return Outcome {
+            answer: Answer::Wrote(1),
+            carry: shut(carry),
+        };
+    }
+    Outcome {
+        answer: Answer::Wrote(0),
+        carry: shut(carry),
     }
 }

@@ -2,7 +2,16 @@
 ghost use mathlib.Core.Path.{_≡_};
 ghost use Prim.Native.Nat.{_-_};
 ghost use Rattle.carry.specs.Carries.{allZero, inOrder};
+ghost use Rattle.carry.specs.Calls.{carryRows};
+ghost use Rattle.carry.specs.declared.order.Verdict.the-variants.{Wrong, Fine};
 use super::Carry;
+use terms::Refusal;
+
+// What the rows that judge every carry say of one.
+pub enum Verdict {
+    Fine,
+    Wrong(Refusal),
+}
 
 fn all_zero(bytes: &[u8]) -> bool
     ensures { λ r. ⌜ r ≡ allZero (now (bytes .entry)) ⌝ }
@@ -49,4 +58,21 @@ pub fn in_order(carry: Carry) -> bool
         return false;
     }
     true
+}
+
+// A carry handed in: its settings, its order, whether it is closed.
+pub fn judge(carry: Carry) -> Verdict
+    ensures { λ r. ⌜ r ≡ carryRows carry Wrong Fine ⌝ }
+{
+    let settings = carry.settings;
+    if !settings.in_range() {
+        return Verdict::Wrong(Refusal::SettingsOutOfRange);
+    }
+    if !in_order(carry) {
+        return Verdict::Wrong(Refusal::CarryNotInOrder);
+    }
+    if carry.closed {
+        return Verdict::Wrong(Refusal::CarryClosed);
+    }
+    Verdict::Fine
 }

@@ -13,8 +13,7 @@ use lib.Bits.{bitXor, xor-lt, xor-shr, xor-mod, xor-comm, xor-self, xor-zero-r, 
 use Rattle.signature.specs.Polynomials.{foldDigits, clmul, divide, rem}
 use Rattle.signature.proofs.Xor.{by-digit, digit-lt, xor-assoc, xor-left-comm, xor-cancel, xor-swap, xor-shl, digit-times}
 
--- ---- a fold over the digits, opened at the lowest one
-
+-- a fold over the digits, opened at the lowest one
 module _ (f : ℕ → ℕ → ℕ) where
   spare : (k n : ℕ) → n ≤ k → foldDigits f (suc k) n ≡ foldDigits f k n
   unfolding foldDigits
@@ -213,6 +212,14 @@ module _ (d l : ℕ) (low : l < 2 ^ d) where
         ∙ ap₂ bitXor (rem-multiple (w .1 .0)) (rem-small r (w .0))),
   )
 
+-- the digits of s above the e low ones stay above those that are moved up by k
+top-and-bottom : (e k s r : ℕ) → s * 2 ^ k + r ≡ s / 2 ^ e * 2 ^ (e + k) + (s % 2 ^ e * 2 ^ k + r)
+top-and-bottom e k s r =
+    ap (λ (x : ℕ). x * 2 ^ k + r) (sym (split s e))
+    ∙ ap (λ (x : ℕ). x + r) (add-mul (s / 2 ^ e * 2 ^ e) (s % 2 ^ e) (2 ^ k))
+    ∙ add-assoc (s / 2 ^ e * 2 ^ e * 2 ^ k) (s % 2 ^ e * 2 ^ k) r
+    ∙ ap (λ (x : ℕ). x + (s % 2 ^ e * 2 ^ k + r)) (mul-assoc (s / 2 ^ e) (2 ^ e) (2 ^ k) ∙ ap (λ (x : ℕ). s / 2 ^ e * x) (sym (pow-add 2 e k)))
+
 -- k digits more on a number s, reduced by its top digits alone: those above e, for a degree of e + k
 pub rem-by-top : (e k l : ℕ) → l < 2 ^ (e + k) → (s r : ℕ) → r < 2 ^ k
     → rem (e + k) l (s * 2 ^ k + r) ≡ bitXor (rem (e + k) l (s / 2 ^ e * 2 ^ (e + k))) (s % 2 ^ e * 2 ^ k + r)
@@ -220,11 +227,6 @@ rem-by-top e k l low s r h =
     let d = e + k in
     let bottom = s % 2 ^ e * 2 ^ k + r in
     let small : bottom < 2 ^ d = subst (λ (x : ℕ). bottom < x) (sym (pow-add 2 e k)) (digits-lt (mod-lt s (pow-pos e)) h) in
-    let parts : s * 2 ^ k + r ≡ s / 2 ^ e * 2 ^ d + bottom =
-    ap (λ (x : ℕ). x * 2 ^ k + r) (sym (split s e))
-    ∙ ap (λ (x : ℕ). x + r) (add-mul (s / 2 ^ e * 2 ^ e) (s % 2 ^ e) (2 ^ k))
-    ∙ add-assoc (s / 2 ^ e * 2 ^ e * 2 ^ k) (s % 2 ^ e * 2 ^ k) r
-    ∙ ap (λ (x : ℕ). x + bottom) (mul-assoc (s / 2 ^ e) (2 ^ e) (2 ^ k) ∙ ap (λ (x : ℕ). s / 2 ^ e * x) (sym (pow-add 2 e k))) in
-    ap (rem d l) (parts ∙ sym (xor-shifted (s / 2 ^ e) d bottom small))
+    ap (rem d l) (top-and-bottom e k s r ∙ sym (xor-shifted (s / 2 ^ e) d bottom small))
     ∙ rem-xor d l low (s / 2 ^ e * 2 ^ d) bottom
     ∙ ap (bitXor (rem d l (s / 2 ^ e * 2 ^ d))) (rem-small d l low bottom small)

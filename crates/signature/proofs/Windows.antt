@@ -30,13 +30,13 @@ number-lt (b ∷ bs) h =
     subst (λ (x : ℕ). b * 2 ^ (8 * length bs) + number bs < x) (sym (byte-power (length bs) ∙ mul-comm (2 ^ (8 * length bs)) (2 ^ 8)))
     (digits-lt (h 0) (number-lt bs (λ j. h (suc j))))
 
+snoc-power : (bs : List ℕ) (e : ℕ) → 2 ^ (8 * length (bs ++ e ∷ [])) ≡ 2 ^ (8 * length bs) * 2 ^ 8
+snoc-power bs e = ap (λ (n : ℕ). 2 ^ (8 * n)) (length-append bs (e ∷ []) ∙ add-one (length bs)) ∙ byte-power (length bs)
+
 number-snoc : (bs : List ℕ) (e : ℕ) → number (bs ++ e ∷ []) ≡ number bs * 2 ^ 8 + e
 unfolding number
 number-snoc [] e = omega arith
-number-snoc (b ∷ bs) e =
-    let longer : 2 ^ (8 * length (bs ++ e ∷ [])) ≡ 2 ^ (8 * length bs) * 2 ^ 8 =
-    ap (λ (n : ℕ). 2 ^ (8 * n)) (length-append bs (e ∷ []) ∙ add-one (length bs)) ∙ byte-power (length bs) in
-    ap₂ (λ (x y : ℕ). b * x + y) longer (number-snoc bs e) ∙ omega arith
+number-snoc (b ∷ bs) e = ap₂ (λ (x y : ℕ). b * x + y) (snoc-power bs e) (number-snoc bs e) ∙ omega arith
 
 bytes-drop : (n : ℕ) (bs : List ℕ) → Bytes bs → Bytes (drop n bs)
 bytes-drop n bs h j = rw getD-drop (h (n + j))
@@ -47,8 +47,9 @@ bytes-take (suc n) [] h j = lit< tt
 bytes-take (suc n) (b ∷ bs) h zero = h 0
 bytes-take (suc n) (b ∷ bs) h (suc j) = bytes-take n bs (λ i. h (suc i)) j
 
-regroup : (b p n e : ℕ) → (b * p + n) * 2 ^ 8 + e ≡ b * (p * 2 ^ 8) + (n * 2 ^ 8 + e)
-regroup b p n e = omega arith
+-- one byte more on b and n below it, where p is the power that b stands at
+one-up : (b p p′ n e : ℕ) → p′ ≡ p * 2 ^ 8 → (b * p + n) * 2 ^ 8 + e ≡ b * p′ + (n * 2 ^ 8 + e)
+one-up b p p′ n e is-p′ = rw is-p′ (omega arith)
 
 module _ (d l : ℕ) (low : l < 2 ^ d) (wide : 8 ≤ d) where
   -- a byte enters: what is shifted and what is added are reduced as one
@@ -72,15 +73,13 @@ module _ (d l : ℕ) (low : l < 2 ^ d) (wide : 8 ≤ d) where
       let power : 2 ^ (8 * m) ≡ 2 ^ (8 * length rest) * 2 ^ 8 = ap (λ (n : ℕ). 2 ^ (8 * n)) (sym len) ∙ byte-power (length rest) in
       let next = number rest * 2 ^ 8 + e in
       let fits : next < 2 ^ (8 * m) = subst (λ (x : ℕ). next < x) (sym power) (digits-lt (number-lt rest bytes) h) in
-      let whole : number (b ∷ rest) * 2 ^ 8 + e ≡ b * 2 ^ (8 * m) + next =
-      regroup b (2 ^ (8 * length rest)) (number rest) e ∙ ap (λ (x : ℕ). b * x + next) (sym power) in
       let left = rem d l (b * 2 ^ (8 * m)) in
       ap (rem d l) (number-snoc rest e)
       ∙ sym (xor-cancel left (rem d l next))
       ∙ xor-comm left (bitXor left (rem d l next))
       ∙ ap (λ (x : ℕ). bitXor x left)
       (sym (rem-xor d l low (b * 2 ^ (8 * m)) next)
-      ∙ ap (rem d l) (xor-shifted b (8 * m) next fits ∙ sym whole)
+      ∙ ap (rem d l) (xor-shifted b (8 * m) next fits ∙ sym (one-up b _ _ (number rest) e power))
       ∙ rem-shift d l low 8 (number (b ∷ rest)) e h
       ∙ sym (grown-reduced (rem d l (number (b ∷ rest))) e h))
 
@@ -99,13 +98,15 @@ module _ (d l : ℕ) (low : l < 2 ^ d) (wide : 8 ≤ d) where
       ∙ ap₂ (λ (w : List ℕ) (e : ℕ). rolled d l (suc k) (signature d l w) (getD log q 0) e)
       (sym (ap (take (suc k)) (drop-cons log q 0 (omega arith)))) enters
 
+shifted-low : (e w s : ℕ) → e + 8 ≤ w → bitAnd s (2 ^ e - 1) * 2 ^ 8 % 2 ^ w ≡ s % 2 ^ e * 2 ^ 8
+shifted-low e w s fits =
+    ap (λ (n : ℕ). n * 2 ^ 8 % 2 ^ w) (and-mask s e) ∙ shl-exact e 8 w (mod-lt s (pow-pos e)) fits
+
 -- a byte enters by shifts and masks in a word of w bits: the e low digits move up by 8, and x stands for those above them
 pub grown-by-shifts : (e l w : ℕ) → l < 2 ^ (e + 8) → e + 8 ≤ w → (s b x : ℕ) → b < 2 ^ 8 → x ≡ rem (e + 8) l (s / 2 ^ e * 2 ^ (e + 8))
     → bitXor (bitOr (bitAnd s (2 ^ e - 1) * 2 ^ 8 % 2 ^ w) b) x ≡ grown (e + 8) l s b
 grown-by-shifts e l w low fits s b x hb is-x =
-    let masked : bitAnd s (2 ^ e - 1) * 2 ^ 8 % 2 ^ w ≡ s % 2 ^ e * 2 ^ 8 =
-    ap (λ (n : ℕ). n * 2 ^ 8 % 2 ^ w) (and-mask s e) ∙ shl-exact e 8 w (mod-lt s (pow-pos e)) fits in
-    ap₂ bitXor (ap (λ (n : ℕ). bitOr n b) masked ∙ or-shifted (s % 2 ^ e) 8 b hb) is-x
+    ap₂ bitXor (ap (λ (n : ℕ). bitOr n b) (shifted-low e w s fits) ∙ or-shifted (s % 2 ^ e) 8 b hb) is-x
     ∙ xor-comm (s % 2 ^ e * 2 ^ 8 + b) (rem (e + 8) l (s / 2 ^ e * 2 ^ (e + 8)))
     ∙ sym (rem-by-top e 8 l low s b hb)
     ∙ sym (grown-reduced (e + 8) l low (omega arith) s b hb)

@@ -5,6 +5,7 @@ ghost use Rattle.terms.specs.Refusals.{numberOf};
 ghost use Rattle.terms.specs.Labels.{byteOf};
 
 // How a log is cut: K pattern bits, their target, and the least and the greatest length of a piece.
+#[repr(C)]
 pub struct Settings {
     pub bits: u32,
     pub target: u32,

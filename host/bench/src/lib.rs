@@ -1,0 +1,3 @@
+//! What the library's speed is measured beside.
+
+pub mod baseline;
