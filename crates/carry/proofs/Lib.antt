@@ -1,5 +1,7 @@
+pub mod Rows
 pub mod Bytes
 pub mod Parts
 pub mod Room
 pub mod Prefix
+pub mod Closing
 pub mod SinglePass

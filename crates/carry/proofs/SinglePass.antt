@@ -23,23 +23,13 @@ use Rattle.carry.specs.declared.Carry.{Carry}
 use Rattle.carry.specs.Carries.{inOrder, freshCarry, blockTaken, cutsIn}
 use Rattle.carry.specs.Calls.{wrote, closedCarry, freshOf, blockOf, blockList, closingCut, closeOf, closeList}
 use Rattle.carry.specs.SinglePass.{Lent, joined, Roomy, none, more, writtenFrom, writtenBy}
+use Rattle.carry.proofs.Closing.{closing-open, closing-shut, closing-few}
 use Rattle.carry.proofs.Prefix.{CarryOf, fresh-prefix, in-order, block-prefix, block-room}
 
 -- what a list holds first, once cuts that it has room for are written into it
 pub written-first : (cuts list : List ℕ) → length cuts ≤ length list → take (length cuts) (writtenList cuts list) ≡ cuts
 unfolding writtenList over
 written-first cuts list h = rw (take-all (length list) cuts h) (take-append-seam cuts _)
-
-pub closing-open : (c : Carry) → 0 < c .since → closingCut c ≡ c .taken ∷ []
-unfolding closingCut
-closing-open c h = rw (lt-ltb 0 (c .since) h, closingCut)
-
-pub closing-shut : (c : Carry) → c .since ≤ 0 → closingCut c ≡ []
-unfolding closingCut
-closing-shut c h = rw (le-ltb 0 (c .since) h, closingCut)
-
-pub closing-few : (c : Carry) → length (closingCut c) ≤ 1
-closing-few c = by-lt 0 (c .since) (λ h. rw (closing-open c h) (omega arith)) (λ h. rw (closing-shut c h) (omega arith))
 
 module _ (s : Settings) (log : List ℕ) (fine : inRange s ≡ true) (fits : length log ≤ longest) where
   -- a carry of a prefix is refused by none of the rows that judge a carry
