@@ -1,4 +1,5 @@
 pub mod Rows
+pub mod Copies
 pub mod Bytes
 pub mod Parts
 pub mod Room

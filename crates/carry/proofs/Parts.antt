@@ -10,11 +10,8 @@ use lib.Seq.{drop-drop}
 use Rattle.signature.specs.Signatures.{signatureOf}
 use Rattle.carry.specs.declared.Carry.{Carry}
 use Rattle.carry.specs.Carries.{slid, byteTaken, blockTaken}
+use Rattle.carry.specs.Taking.{slidBy}
 use Rattle.carry.proofs.Bytes.{length-slid, slid-on, later-window}
-
--- the last 48 bytes once a block has come after a window
-abbrev pub slidBy : List ℕ → List ℕ → List ℕ
-slidBy window block = drop (length block) (window ++ block)
 
 pub length-slid-by : (w block : List ℕ) → length w ≡ 48 → length (slidBy w block) ≡ 48
 length-slid-by w block e = simp (length-drop, length-append) (omega arith)

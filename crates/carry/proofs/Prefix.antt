@@ -22,7 +22,7 @@ use Rattle.cutting.proofs.Marked.{mark-within}
 use Rattle.carry.specs.declared.Carry.{Carry}
 use Rattle.carry.specs.Carries.{allZero, inOrder, freshCarry, blockTaken, cutsIn}
 use Rattle.carry.proofs.Bytes.{Sees, Hopped, sees-first, block-hops}
-use Rattle.carry.proofs.Parts.{slidBy, length-slid-by, Parts, parts}
+use Rattle.carry.proofs.Parts.{length-slid-by, Parts, parts}
 use Rattle.carry.proofs.Room.{enough-room}
 
 -- the log with the zeros that a window shows before its start

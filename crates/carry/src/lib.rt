@@ -9,6 +9,7 @@ use terms::Refusal;
 use terms::Settings;
 
 pub mod order;
+pub mod taking;
 
 // What the one-pass cutter carries over a block's edge.
 pub struct Carry {
