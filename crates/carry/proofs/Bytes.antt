@@ -58,7 +58,7 @@ pub record Sees (mark : ℕ → Bool) (c : Carry) (block : List ℕ) : Type 0 wh
       → mark (c .taken + suc i) ≡ matches (c .settings) (signatureOf (take 48 (drop (suc i) (c .window ++ block))))
 
 -- the windows of a block's first part lie in that part
-window-first : (w xs ys : List ℕ) (i : ℕ) → length w ≡ 48 → i ≤ length xs → take 48 (drop i (w ++ (xs ++ ys))) ≡ take 48 (drop i (w ++ xs))
+pub window-first : (w xs ys : List ℕ) (i : ℕ) → length w ≡ 48 → i ≤ length xs → take 48 (drop i (w ++ (xs ++ ys))) ≡ take 48 (drop i (w ++ xs))
 window-first w xs ys i e h =
     let grown : length (w ++ xs) ≡ 48 + length xs = length-append w xs ∙ ap (λ n. n + length xs) e in
     ap (λ l. take 48 (drop i l)) (sym (append-assoc w xs ys))

@@ -2,6 +2,7 @@ pub mod Rows
 pub mod Copies
 pub mod Bytes
 pub mod Parts
+pub mod FirstCut
 pub mod Room
 pub mod Prefix
 pub mod Closing

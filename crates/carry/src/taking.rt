@@ -3,7 +3,7 @@
 ghost use mathlib.Core.Path.{_≡_};
 ghost use mathlib.Core.Bool.{true};
 ghost use mathlib.Core.List.{_++_};
-ghost use Prim.Native.Nat.{suc, min, _+_, _-_, _≤_, _<_};
+ghost use Prim.Native.Nat.{suc, min, max, _+_, _-_, _≤_, _<_};
 ghost use lib.ListN.{length, take, drop};
 ghost use lib.Seq.{paste};
 ghost use Rattle.terms.specs.Settings.{inRange};
@@ -56,4 +56,96 @@ fn last_bytes(bytes: &[u8]) -> [u8; 48]
     let from = bytes.len() - 48;
     copy_in(&mut last, 0, &bytes[from..]);
     last
+}
+
+// Whether a piece that long ends where the signature is this one.
+fn ends_piece(settings: Settings, piece: u64, signature: u32) -> bool
+    requires { ⌜ inRange settings ≡ true ⌝ }
+    ensures { λ r. ⌜ r ≡ endsPiece settings piece signature ⌝ }
+{
+    if piece < settings.minimum {
+        return false;
+    }
+    let mask: u32 = (1 << settings.bits) - 1;
+    if signature & mask == settings.target {
+        return true;
+    }
+    if piece == settings.maximum {
+        return true;
+    }
+    false
+}
+
+// The first mark from one offset to another, or the latter where there is none: the next cut of a piece bounded by the two.
+fn first_mark(
+    settings: Settings,
+    bytes: &[u8],
+    first: usize,
+    last: usize,
+    leaving: &[u32; 256],
+    pushed: &[u32; 256],
+) -> usize
+    requires { ⌜ inRange settings ≡ true ⌝ }
+    requires { ⌜ (48 ≤ first) × (first ≤ last) × (last ≤ length (now bytes)) × (last ≤ 16_777_216) ⌝ }
+    requires { ⌜ (now leaving ≡ leavingTable) × (now pushed ≡ pushedTable) ⌝ }
+    ensures { λ r. ⌜ r ≡ firstMark (mark settings (now (bytes .entry))) (suc last - first) first last ⌝ }
+{
+    let piece = Settings {
+        bits: settings.bits,
+        target: settings.target,
+        minimum: first as u64,
+        maximum: last as u64,
+    };
+    cutting::search::next_cut(piece, bytes, 0, leaving, pushed)
+}
+
+fn smaller(a: u64, b: usize) -> usize
+    ensures { λ r. ⌜ r ≡ min a b ⌝ }
+{
+    if a < b as u64 { a as usize } else { b }
+}
+
+// What is left of a piece's least length once so many bytes of it have come: at least the byte that comes next.
+fn still_to_come(minimum: u64, since: u64) -> usize
+    ensures { λ r. ⌜ r ≡ max (minimum - since) 1 ⌝ }
+{
+    if since < minimum {
+        (minimum - since) as usize
+    } else {
+        1
+    }
+}
+
+// The first offset of the block where the piece in hand can end, or the block's end. The head is the window and the block's
+// first 48 bytes.
+fn first_cut(
+    settings: Settings,
+    since: u64,
+    head: &[u8],
+    block: &[u8],
+    leaving: &[u32; 256],
+    pushed: &[u32; 256],
+) -> usize
+    requires { ⌜ (inRange settings ≡ true) × (since < settings .maximum) ⌝ }
+    requires { ⌜ (48 ≤ length (now head)) × (now head ≡ take 48 (now head) ++ take 48 (now block)) ⌝ }
+    requires { ⌜ (now leaving ≡ leavingTable) × (now pushed ≡ pushedTable) ⌝ }
+    ensures { λ r. ⌜ r ≡ firstCut settings since (take 48 (now (head .entry)) ++ now (block .entry)) (length (now (block .entry))) ⌝ }
+{
+    let first = still_to_come(settings.minimum, since);
+    let last = smaller(settings.maximum - since, block.len());
+    if last < first {
+        return last;
+    }
+    if first >= 48 {
+        return first_mark(settings, block, first, last, leaving, pushed);
+    }
+    let edge = smaller(48, last);
+    let at = first_mark(settings, head, 48 + first, 48 + edge, leaving, pushed) - 48;
+    if at < edge {
+        return at;
+    }
+    if last <= 48 {
+        return last;
+    }
+    first_mark(settings, block, 48, last, leaving, pushed)
 }

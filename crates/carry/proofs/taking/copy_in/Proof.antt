@@ -43,9 +43,11 @@ loop-less c = search needs
 
 loop-again : tie.Need-loop-again Inv-loop μ-loop
 loop-again c =
-    let here = c .before .before in
-    (omega arith, simp length-set (here .loop .inv .1),
-      one-copied (here .loop .dst) (now (here .before .args .dst)) (here .before .args .at) (now (here .before .args .src)) (here .loop .i) (omega (arith, here .before .pre)) (c .before .loop-test .taken) (here .loop .inv .2))
+    let here = c .before .before in (
+      omega arith,
+      simp length-set (here .loop .inv .1),
+      one-copied (here .loop .dst) (now (here .before .args .dst)) (here .before .args .at) (now (here .before .args .src)) (here .loop .i) (omega (arith, here .before .pre)) (c .before .loop-test .taken) (here .loop .inv .2),
+    )
 
 same-length : tie.Need-same-length Inv-loop μ-loop
 same-length c = c .before .loop .inv .1
