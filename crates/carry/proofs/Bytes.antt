@@ -18,7 +18,7 @@ use Rattle.cutting.specs.Marks.{matches}
 use Rattle.carry.specs.declared.Carry.{Carry}
 use Rattle.carry.specs.Carries.{slid, cutsAt, byteTaken, blockTaken, cutsIn}
 
-clash : true ≡ false → ⊥
+pub clash : true ≡ false → ⊥
 clash e = let z : _≡_ {A = ℕ} 0 1 = cc in omega arith
 
 -- p is the offset looked at, d bytes past the last cut m, and no hop from m has passed it

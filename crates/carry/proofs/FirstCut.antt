@@ -63,10 +63,10 @@ only-one mark p =
 
 -- the marks that a carry's window and a block show, counted from the block's start
 module _ (s : Settings) (w block : List ℕ) (whole : length w ≡ 48) where
-  abbrev seen : ℕ → Bool
+  abbrev pub seen : ℕ → Bool
   seen i = mark s (w ++ block) (48 + i)
 
-  long : length (w ++ block) ≡ 48 + length block
+  pub long : length (w ++ block) ≡ 48 + length block
   long = length-append w block ∙ ap (λ n. n + length block) whole
 
   -- those at the edge lie in the window and the block's first 48 bytes
@@ -82,7 +82,7 @@ module _ (s : Settings) (w block : List ℕ) (whole : length w ≡ 48) where
       ∙ ap (window (w ++ block)) (sym here))
 
   -- those further on lie in the block
-  block-marks : (i : ℕ) → 48 ≤ i → i ≤ length block → mark s block i ≡ seen i
+  pub block-marks : (i : ℕ) → 48 ≤ i → i ≤ length block → mark s block i ≡ seen i
   block-marks i a b =
       let here : 48 + i - 48 ≡ length w + (i - 48) = omega arith in
       marks-agree s block (w ++ block) i (48 + i) a b (omega arith) (omega (arith, long))

@@ -3,6 +3,7 @@ pub mod Copies
 pub mod Bytes
 pub mod Parts
 pub mod FirstCut
+pub mod Seen
 pub mod Room
 pub mod Prefix
 pub mod Closing
