@@ -4,6 +4,7 @@ pub mod Bytes
 pub mod Parts
 pub mod FirstCut
 pub mod Seen
+pub mod Filling
 pub mod Room
 pub mod Prefix
 pub mod Closing

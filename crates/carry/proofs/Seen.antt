@@ -7,9 +7,10 @@ use native.Mathlib.Nat.{add-zero}
 use native.Mathlib.Omega.{arith}
 use lib.Dec.{ltb}
 use lib.ListN.{length, take, drop}
-use borrow.Author.Tests.{lt-ltb, le-ltb}
-use Rattle.laws.proofs.Cases.{by-lt}
-use Rattle.terms.proofs.Ranges.{Ranges}
+use borrow.Author.Tests.{lt-ltb, le-ltb, leb-true, ltb-true, eqb-true}
+use Rattle.laws.proofs.Cases.{by-lt, both-true}
+use Rattle.terms.specs.Settings.{inRange}
+use Rattle.terms.proofs.Ranges.{Ranges, ranges}
 use Rattle.rule.specs.Rule.{firstMark, next, hop, Unmarked, NextCut, first-mark, forced, log-ends}
 use Rattle.rule.proofs.First.{First, at-mark, none-there, first-is}
 use Rattle.rule.proofs.Next.{next-only, next-moves}
@@ -17,16 +18,31 @@ use Rattle.signature.specs.Signatures.{signatureOf}
 use Rattle.cutting.specs.Marks.{mark, matches, nextCut}
 use Rattle.cutting.proofs.Marked.{mark-within}
 use Rattle.carry.specs.declared.Carry.{Carry}
+use Rattle.carry.specs.Carries.{inOrder}
 use Rattle.carry.specs.Taking.{firstCut}
 use Rattle.carry.proofs.Bytes.{Sees, clash}
 use Rattle.carry.proofs.FirstCut.{long, block-marks}
 
--- what is needed of a carry that is in order
+-- a carry whose settings are in range and that is in order, as facts by name
 pub record Usable (c : Carry) : Type 0 where
   pub ranged : Ranges (c .settings)
   pub whole : length (c .window) ≡ 48
   pub begun : c .since ≤ c .taken
   pub below : c .since < c .settings .maximum
+  pub signed : c .signature ≡ signatureOf (c .window)
+
+pub usable : (c : Carry) → inRange (c .settings) ≡ true → inOrder c ≡ true → length (c .window) ≡ 48 → Usable c
+unfolding inOrder
+usable c fine order whole =
+    let a = both-true order in
+    let b = both-true (a .1) in
+    record {
+      ranged = ranges (c .settings) fine;
+      whole = whole;
+      begun = leb-true _ _ (a .0);
+      below = ltb-true _ _ (b .0);
+      signed = eqb-true _ _ (both-true (b .1) .0);
+    }
 
 -- the last cut before the block
 abbrev pub lastCut : Carry → ℕ

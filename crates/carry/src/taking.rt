@@ -149,3 +149,37 @@ fn first_cut(
     }
     first_mark(settings, block, 48, last, leaving, pushed)
 }
+
+// Writes the cuts that come before the block's end.
+fn fill(
+    carry: Carry,
+    head: &[u8],
+    block: &[u8],
+    list: &mut [u64],
+    leaving: &[u32; 256],
+    pushed: &[u32; 256],
+) -> Filled
+    requires { ⌜ (inRange (carry .settings) ≡ true) × (inOrder carry ≡ true) ⌝ }
+    requires { ⌜ (0 < length (now block)) × (carry .taken + length (now block) ≤ longest) ⌝ }
+    requires { ⌜ now head ≡ carry .window ++ take 48 (now block) ⌝ }
+    requires { ⌜ (now leaving ≡ leavingTable) × (now pushed ≡ pushedTable) ⌝ }
+    ensures { λ r. ⌜ r ≡ filledOf carry (now (block .entry)) (length (now (list .entry))) ⌝ }
+    ensures { λ _. ⌜ now (list .exit) ≡ writtenList (cutsIn carry (allButLast (now (block .entry)))) (now (list .entry)) ⌝ }
+{
+    let settings = carry.settings;
+    let since = carry.since;
+    let mut count: usize = 0;
+    let mut cut = first_cut(settings, since, head, block, leaving, pushed);
+    let mut piece = since + cut as u64;
+    while cut < block.len() {
+        if count == list.len() {
+            return Filled::Full;
+        }
+        list[count] = carry.taken + cut as u64;
+        count += 1;
+        let next = cutting::search::next_cut(settings, block, cut, leaving, pushed);
+        piece = (next - cut) as u64;
+        cut = next;
+    }
+    Filled::Reached(count, piece)
+}
