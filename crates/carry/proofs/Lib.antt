@@ -5,6 +5,8 @@ pub mod Parts
 pub mod FirstCut
 pub mod Seen
 pub mod Filling
+pub mod LastByte
+pub mod TakenBlock
 pub mod Room
 pub mod Prefix
 pub mod Closing

@@ -10,7 +10,7 @@ use lib.Seq.{drop-drop}
 use Rattle.signature.specs.Signatures.{signatureOf}
 use Rattle.carry.specs.declared.Carry.{Carry}
 use Rattle.carry.specs.Carries.{slid, byteTaken, blockTaken}
-use Rattle.carry.specs.Taking.{slidBy}
+use Rattle.carry.specs.Taking.{slidBy, advancedBy}
 use Rattle.carry.proofs.Bytes.{length-slid, slid-on, later-window}
 
 pub length-slid-by : (w block : List ℕ) → length w ≡ 48 → length (slidBy w block) ≡ 48
@@ -51,15 +51,7 @@ parts (b ∷ bs) c whole sig =
 -- the whole carry, where the bytes since the last cut are known
 pub block-taken : (block : List ℕ) (c : Carry) (since : ℕ) → length (c .window) ≡ 48 → c .signature ≡ signatureOf (c .window)
     → blockTaken c block .since ≡ since
-    → blockTaken c block
-    ≡ record {
-      settings = c .settings;
-      taken = c .taken + length block;
-      since = since;
-      window = slidBy (c .window) block;
-      signature = signatureOf (slidBy (c .window) block);
-      closed = c .closed;
-    }
+    → blockTaken c block ≡ advancedBy c (length block) since (slidBy (c .window) block) (signatureOf (slidBy (c .window) block))
 block-taken block c since whole sig e =
     let p = parts block c whole sig in
     λ i.

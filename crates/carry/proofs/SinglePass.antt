@@ -21,7 +21,7 @@ use Rattle.cutting.specs.Marks.{mark, cutList}
 use Rattle.cutting.specs.WholeLog.{writtenList}
 use Rattle.carry.specs.declared.Carry.{Carry}
 use Rattle.carry.specs.Carries.{inOrder, freshCarry, blockTaken, cutsIn}
-use Rattle.carry.specs.Calls.{wrote, closedCarry, freshOf, blockOf, blockList, closingCut, closeOf, closeList}
+use Rattle.carry.specs.Calls.{wrote, closedCarry, freshOf, takenOf, blockOf, blockList, closingCut, closeOf, closeList}
 use Rattle.carry.specs.SinglePass.{Lent, joined, Roomy, none, more, writtenFrom, writtenBy}
 use Rattle.carry.proofs.Closing.{closing-open, closing-shut, closing-few}
 use Rattle.carry.proofs.Prefix.{CarryOf, fresh-prefix, in-order, block-prefix, block-room}
@@ -55,7 +55,7 @@ module _ (s : Settings) (log : List ℕ) (fine : inRange s ≡ true) (fits : len
     lent = le-leb (roomFor (c .settings .minimum) (length block)) (length list) (rw (is .same) roomy)
 
     block-fine : blockOf c block (length list) ≡ wrote (blockTaken c block) (length (cutsIn c block))
-    unfolding blockOf
+    unfolding blockOf takenOf
     block-fine =
         rw (
           ranged (block ++ after) written c is,

@@ -46,11 +46,14 @@ blockRows c bytes room refuse fine =
     (unless (leb (roomFor (c .settings .minimum) bytes) room) (refuse RoomTooShort)
     fine))
 
--- the answer and the carry; 17 where a list of room entries runs full
+-- what a block comes to that no row refuses: 17 where a list of room entries runs full
+unfoldable pub takenOf : Carry → List ℕ → ℕ → Outcome
+takenOf c block room =
+    unless (leb (length (cutsIn c block)) room) (refused c ListFull) (wrote (blockTaken c block) (length (cutsIn c block)))
+
+-- the answer and the carry
 unfoldable pub blockOf : Carry → List ℕ → ℕ → Outcome
-blockOf c block room =
-    blockRows c (length block) room (refused c)
-    (unless (leb (length (cutsIn c block)) room) (refused c ListFull) (wrote (blockTaken c block) (length (cutsIn c block))))
+blockOf c block room = blockRows c (length block) room (refused c) (takenOf c block room)
 
 -- the list at exit; 17 keeps the cuts written
 unfoldable pub blockList : Carry → List ℕ → List ℕ → List ℕ

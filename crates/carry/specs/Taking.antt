@@ -37,3 +37,15 @@ unfoldable pub filledOf : Carry → List ℕ → ℕ → Filled
 filledOf c block room =
     unless (leb (length (cutsIn c (allButLast block))) room) Full
     (Reached (length (cutsIn c (allButLast block))) (blockTaken c (allButLast block) .since + 1))
+
+-- the carry so many bytes further, with these parts new
+abbrev pub advancedBy : Carry → ℕ → ℕ → List ℕ → ℕ → Carry
+advancedBy c bytes since window signature =
+    record {
+      settings = c .settings;
+      taken = c .taken + bytes;
+      since = since;
+      window = window;
+      signature = signature;
+      closed = c .closed;
+    }
