@@ -91,15 +91,22 @@ module _ (c : Carry) (block : List ℕ) (whole : length (c .window) ≡ 48) (sig
           (on .1 ∙ ap (advancedBy c (length block) p (slidBy (c .window) block)) (sym is-signature)) (ap length (on .0) ∙ sym (r .counted)),
           kept ∙ ap (λ l. writtenList l list₀) (sym (on .0)))
 
+    list-long : length list ≡ length list₀
+    list-long = ap length kept ∙ written-long (cutsIn c (allButLast block)) list₀ (reaching e .fits)
+
+    -- a count that is not the list's length is below it
+    pub room-left : (k ≡ length list → ⊥) → (k < length list₀) × (k < length list)
+    room-left ne =
+        let r = reaching e in
+        let all = list-long in
+        (omega (arith, r .counted, r .fits), omega (arith, r .counted, r .fits))
+
     module _ (t : endsPiece (c .settings) p signature ≡ true) where
       at-end : (cutsIn c block ≡ cutsIn c (allButLast block) ++ ((c .taken + length block) ∷ []))
           × (blockTaken c block ≡ advancedBy c (length block) 0 (slidBy (c .window) block) signature)
       at-end =
           let on = ended c block whole signed some p (reaching e .piece) (ap (endsPiece (c .settings) p) (sym is-signature) ∙ t) in
           (on .0, on .1 ∙ ap (advancedBy c (length block) 0 (slidBy (c .window) block)) (sym is-signature))
-
-      list-long : length list ≡ length list₀
-      list-long = ap length kept ∙ written-long (cutsIn c (allButLast block)) list₀ (reaching e .fits)
 
       grown : length (cutsIn c block) ≡ k + 1
       grown = let r = reaching e in rw (at-end .0, length-append) (omega (arith, r .counted))

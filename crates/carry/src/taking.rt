@@ -13,8 +13,12 @@ ghost use Rattle.signature.specs.Signatures.{leavingTable, pushedTable};
 ghost use Rattle.cutting.specs.Marks.{mark};
 ghost use Rattle.cutting.specs.WholeLog.{writtenList};
 ghost use Rattle.carry.specs.Carries.{inOrder, cutsIn};
-ghost use Rattle.carry.specs.Taking.{slidBy, endsPiece, firstCut, allButLast, filledOf};
+ghost use Rattle.carry.specs.Taking.{slidBy, endsPiece, firstCut, allButLast, filledOf, advancedBy};
+ghost use Rattle.carry.specs.Calls.{takenOf};
 use super::Carry;
+use super::Outcome;
+use terms::Answer;
+use terms::Refusal;
 use terms::Settings;
 
 // What writing the cuts before a block's end comes to: a list that runs full, or how many are written and how long the piece
@@ -182,4 +186,68 @@ fn fill(
         cut = next;
     }
     Filled::Reached(count, piece)
+}
+
+// The last 48 bytes once the block is taken.
+fn slide(head: &[u8], block: &[u8]) -> [u8; 48]
+    requires { ⌜ (48 ≤ length (now head)) × (now head ≡ take 48 (now head) ++ take 48 (now block)) ⌝ }
+    ensures { λ r. ⌜ r ≡ slidBy (take 48 (now (head .entry))) (now (block .entry)) ⌝ }
+{
+    if block.len() < 48 {
+        return last_bytes(head);
+    }
+    last_bytes(block)
+}
+
+// The carry so many bytes further.
+fn advanced(carry: Carry, bytes: u64, since: u64, window: [u8; 48], signature: u32) -> Carry
+    requires { ⌜ carry .taken + bytes ≤ longest ⌝ }
+    ensures { λ r. ⌜ r ≡ advancedBy carry bytes since window signature ⌝ }
+{
+    let settings = carry.settings;
+    Carry {
+        settings: settings,
+        taken: carry.taken + bytes,
+        since: since,
+        window: window,
+        signature: signature,
+        closed: carry.closed,
+    }
+}
+
+// Takes a block that no row refuses and that is not empty: the cuts before its end, then its end.
+pub fn take_block(carry: Carry, block: &[u8], list: &mut [u64]) -> Outcome
+    requires { ⌜ (inRange (carry .settings) ≡ true) × (inOrder carry ≡ true) ⌝ }
+    requires { ⌜ (0 < length (now block)) × (carry .taken + length (now block) ≤ longest) ⌝ }
+    ensures { λ r. ⌜ r ≡ takenOf carry (now (block .entry)) (length (now (list .entry))) ⌝ }
+    ensures { λ _. ⌜ now (list .exit) ≡ writtenList (cutsIn carry (now (block .entry))) (now (list .entry)) ⌝ }
+{
+    let leaving = signature::tables::leaving();
+    let pushed = signature::tables::pushed();
+    let settings = carry.settings;
+    let window = carry.window;
+    let bytes = block.len() as u64;
+    let edge = smaller(48, block.len());
+    let both = joined(window, block, edge);
+    let end = 48 + edge;
+    let filled = fill(carry, &both[..end], block, list, &leaving, &pushed);
+    let slid = slide(&both[..end], block);
+    let signature = signature::of_window(&slid, 0, &pushed);
+    let Filled::Reached(count, piece) = filled else {
+        return super::refuse(carry, Refusal::ListFull);
+    };
+    if !ends_piece(settings, piece, signature) {
+        return Outcome {
+            answer: Answer::Wrote(count as u64),
+            carry: advanced(carry, bytes, piece, slid, signature),
+        };
+    }
+    if count == list.len() {
+        return super::refuse(carry, Refusal::ListFull);
+    }
+    list[count] = carry.taken + bytes;
+    Outcome {
+        answer: Answer::Wrote(count as u64 + 1),
+        carry: advanced(carry, bytes, 0, slid, signature),
+    }
 }
