@@ -49,7 +49,7 @@ module _ (c : Carry) (block : List ℕ) (ok : Usable c) where
       → Filling c block list list 0 first (c .since + first)
   start list first e =
       let here : next (seenBy c block) (c .settings .minimum) (c .settings .maximum) (c .taken + length block) (lastCut c) ≡ c .taken + first
-            = next-first c block ok ∙ ap (λ x. c .taken + x) (sym e) in
+      = next-first c block ok ∙ ap (λ x. c .taken + x) (sym e) in
       let within = next-step (seenBy c block) (c .settings .minimum) (c .settings .maximum) (c .taken + length block) (lastCut c) (ok .ranged .ordered) .inside in
       record {
         cuts = [];
@@ -116,7 +116,7 @@ module _ (c : Carry) (block : List ℕ) (ok : Usable c) where
           → (cutsIn c (allButLast block) ≡ l) × (hopped .last ≡ m)
       same-cuts {l} {m} r =
           let mine : UpTo (onward c block) (before-end c block) (lastCut c) (cutsIn c (allButLast block)) (hopped .last)
-                = subst (λ n. UpTo (onward c block) (c .taken + n) (lastCut c) (cutsIn c (allButLast block)) (hopped .last)) init-long (hopped .cuts) in
+          = subst (λ n. UpTo (onward c block) (c .taken + n) (lastCut c) (cutsIn c (allButLast block)) (hopped .last)) init-long (hopped .cuts) in
           let alike : cutsIn c (allButLast block) ≡ l = sym (listed (onward c block) (before-end c block) rises mine) ∙ listed (onward c block) (before-end c block) rises r in
           (alike, sym (last-is mine) ∙ ap (lastOr (lastCut c)) alike ∙ last-is r)
 
@@ -127,9 +127,10 @@ module _ (c : Carry) (block : List ℕ) (ok : Usable c) where
       full h e =
           let more = up-to (onward c block) (before-end c block) rises (c .taken + cut) in
           let all = same-cuts (f .leads _ _ (hop-to (is-cut h) (omega arith) more)) .0 in
-          let long : length list₀ < length (cutsIn c (allButLast block)) = rw (all, length-append) (omega (arith, f .counted)) in
-          (rw (lt-leb _ _ long),
-            f .kept ∙ ap (λ l. over l list₀) (sym (rw all (take-at (f .cuts) _ (length list₀) (sym (f .counted) ∙ e)))))
+          let long : length list₀ < length (cutsIn c (allButLast block)) = rw (all, length-append) (omega (arith, f .counted)) in (
+            rw (lt-leb _ _ long),
+            f .kept ∙ ap (λ l. over l list₀) (sym (rw all (take-at (f .cuts) _ (length list₀) (sym (f .counted) ∙ e)))),
+          )
 
       -- the block's end is reached
       pub done : length block ≤ cut
@@ -140,6 +141,7 @@ module _ (c : Carry) (block : List ℕ) (ok : Usable c) where
           let found = same-cuts (f .leads [] (f .last) stop) in
           let all : cutsIn c (allButLast block) ≡ f .cuts = found .0 ∙ append-nil (f .cuts) in
           let short : length (cutsIn c (allButLast block)) ≤ length list₀ = rw all (omega (arith, f .counted, f .room)) in
-          let since : piece ≡ blockTaken c (allButLast block) .since + 1 = omega (arith, found .1, hopped .tied, f .tied, f .inside, init-long) in
-          (rw (le-leb _ _ short) (ap₂ Reached (f .counted ∙ ap length (sym all)) since),
-            f .kept ∙ ap (λ l. over l list₀) (sym (take-all (length list₀) _ short ∙ all)))
+          let since : piece ≡ blockTaken c (allButLast block) .since + 1 = omega (arith, found .1, hopped .tied, f .tied, f .inside, init-long) in (
+            rw (le-leb _ _ short) (ap₂ Reached (f .counted ∙ ap length (sym all)) since),
+            f .kept ∙ ap (λ l. over l list₀) (sym (take-all (length list₀) _ short ∙ all)),
+          )

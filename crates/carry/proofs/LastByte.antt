@@ -90,15 +90,17 @@ module _ (c : Carry) (block : List ℕ) (whole : length (c .window) ≡ 48) (sig
         → (cutsIn c block ≡ cutsIn c (allButLast block) ++ ((c .taken + length block) ∷ []))
         × (blockTaken c block ≡ advancedBy c (length block) 0 (slidBy (c .window) block) (signatureOf (slidBy (c .window) block)))
     ended e =
-        let made = cut-made before final (test-last piece is-piece ∙ e) in
-        (cuts-last ∙ ap (λ l. cutsIn c (allButLast block) ++ l) (made .0 ∙ ap (λ n. n ∷ []) end-last),
-          block-taken block c 0 whole signed (ap (λ d. d .since) taken-last ∙ made .1))
+        let made = cut-made before final (test-last piece is-piece ∙ e) in (
+          cuts-last ∙ ap (λ l. cutsIn c (allButLast block) ++ l) (made .0 ∙ ap (λ n. n ∷ []) end-last),
+          block-taken block c 0 whole signed (ap (λ d. d .since) taken-last ∙ made .1),
+        )
 
     -- it goes on
     pub open-still : endsPiece (c .settings) piece (signatureOf (slidBy (c .window) block)) ≡ false
         → (cutsIn c block ≡ cutsIn c (allButLast block))
         × (blockTaken c block ≡ advancedBy c (length block) piece (slidBy (c .window) block) (signatureOf (slidBy (c .window) block)))
     open-still e =
-        let made = none-made before final (test-last piece is-piece ∙ e) in
-        (cuts-last ∙ ap (λ l. cutsIn c (allButLast block) ++ l) (made .0) ∙ append-nil (cutsIn c (allButLast block)),
-          block-taken block c piece whole signed (ap (λ d. d .since) taken-last ∙ made .1 ∙ sym is-piece))
+        let made = none-made before final (test-last piece is-piece ∙ e) in (
+          cuts-last ∙ ap (λ l. cutsIn c (allButLast block) ++ l) (made .0) ∙ append-nil (cutsIn c (allButLast block)),
+          block-taken block c piece whole signed (ap (λ d. d .since) taken-last ∙ made .1 ∙ sym is-piece),
+        )

@@ -7,6 +7,7 @@ pub mod Seen
 pub mod Filling
 pub mod LastByte
 pub mod TakenBlock
+pub mod Blocks
 pub mod Room
 pub mod Prefix
 pub mod Closing

@@ -10,6 +10,7 @@ use lib.ListN.{length, take, drop}
 use borrow.Author.Tests.{lt-ltb, le-ltb, leb-true, ltb-true, eqb-true}
 use Rattle.laws.proofs.Cases.{by-lt, both-true}
 use Rattle.terms.specs.Settings.{inRange}
+use Rattle.terms.specs.Answers.{longest}
 use Rattle.terms.proofs.Ranges.{Ranges, ranges}
 use Rattle.rule.specs.Rule.{firstMark, next, hop, Unmarked, NextCut, first-mark, forced, log-ends}
 use Rattle.rule.proofs.First.{First, at-mark, none-there, first-is}
@@ -18,7 +19,7 @@ use Rattle.signature.specs.Signatures.{signatureOf}
 use Rattle.cutting.specs.Marks.{mark, matches, nextCut}
 use Rattle.cutting.proofs.Marked.{mark-within}
 use Rattle.carry.specs.declared.Carry.{Carry}
-use Rattle.carry.specs.Carries.{inOrder}
+use Rattle.carry.specs.Carries.{allZero, inOrder}
 use Rattle.carry.specs.Taking.{firstCut}
 use Rattle.carry.proofs.Bytes.{Sees, clash}
 use Rattle.carry.proofs.FirstCut.{long, block-marks}
@@ -30,18 +31,21 @@ pub record Usable (c : Carry) : Type 0 where
   pub begun : c .since ≤ c .taken
   pub below : c .since < c .settings .maximum
   pub signed : c .signature ≡ signatureOf (c .window)
+  pub short : c .taken ≤ longest
 
 pub usable : (c : Carry) → inRange (c .settings) ≡ true → inOrder c ≡ true → length (c .window) ≡ 48 → Usable c
 unfolding inOrder
 usable c fine order whole =
     let a = both-true order in
     let b = both-true (a .1) in
+    let d = both-true (b .1) in
     record {
       ranged = ranges (c .settings) fine;
       whole = whole;
       begun = leb-true _ _ (a .0);
       below = ltb-true _ _ (b .0);
-      signed = eqb-true _ _ (both-true (b .1) .0);
+      signed = eqb-true _ _ (d .0);
+      short = leb-true (c .taken) longest (both-true {a = allZero (take (48 - c .taken) (c .window))} (d .1) .1);
     }
 
 -- the last cut before the block
@@ -92,14 +96,14 @@ module _ (c : Carry) (block : List ℕ) where
         ≡ c .taken + nextCut (c .settings) block x
     next-inside x =
         let moved : next (seenBy c block) (c .settings .minimum) (c .settings .maximum) (c .taken + length block) (c .taken + x) + 0
-                ≡ nextCut (c .settings) block x + c .taken
-              = next-moves (seenBy c block) (mark (c .settings) block) (c .settings .minimum) (c .settings .maximum) (c .taken + length block) (length block)
-                (c .taken) 0 (omega arith) (c .taken + x) x (omega arith)
-                (λ y lo hi h.
-                let there : c .taken + x + y ≡ c .taken + (x + y) = omega arith in
-                ap (seenBy c block) there
-                ∙ seen-past (x + y) (omega (arith, ok .ranged .window-fits))
-                ∙ sym (block-marks (c .settings) (c .window) block (ok .whole) (x + y) (omega (arith, ok .ranged .window-fits)) (omega arith))) in
+        ≡ nextCut (c .settings) block x + c .taken
+        = next-moves (seenBy c block) (mark (c .settings) block) (c .settings .minimum) (c .settings .maximum) (c .taken + length block) (length block)
+        (c .taken) 0 (omega arith) (c .taken + x) x (omega arith)
+        (λ y lo hi h.
+        let there : c .taken + x + y ≡ c .taken + (x + y) = omega arith in
+        ap (seenBy c block) there
+        ∙ seen-past (x + y) (omega (arith, ok .ranged .window-fits))
+        ∙ sym (block-marks (c .settings) (c .window) block (ok .whole) (x + y) (omega (arith, ok .ranged .window-fits)) (omega arith))) in
         omega (arith, moved)
 
     abbrev first : ℕ

@@ -75,9 +75,10 @@ module _ (c : Carry) (block : List ℕ) (whole : length (c .window) ≡ 48) (sig
   ran-full e =
       let more = begins c block whole signed some in
       let over-long = overfull e in
-      let long : length list₀ < length (cutsIn c block) = rw (more .1, length-append) (omega arith) in
-      (full-answer c block (length list₀) long,
-        kept ∙ sym (ap (λ l. writtenList l list₀) (more .1) ∙ written-more (cutsIn c (allButLast block)) (more .0) list₀ (omega arith)))
+      let long : length list₀ < length (cutsIn c block) = rw (more .1, length-append) (omega arith) in (
+        full-answer c block (length list₀) long,
+        kept ∙ sym (ap (λ l. writtenList l list₀) (more .1) ∙ written-more (cutsIn c (allButLast block)) (more .0) list₀ (omega arith)),
+      )
 
   module _ {k p : ℕ} (e : v ≡ Reached k p) (signature : ℕ) (is-signature : signature ≡ signatureOf (slidBy (c .window) block)) where
     -- the piece goes on past the block
@@ -86,10 +87,11 @@ module _ (c : Carry) (block : List ℕ) (whole : length (c .window) ≡ 48) (sig
         × (list ≡ writtenList (cutsIn c block) list₀)
     goes-on t =
         let r = reaching e in
-        let on = open-still c block whole signed some p (r .piece) (ap (endsPiece (c .settings) p) (sym is-signature) ∙ t) in
-        (fine-answer c block (length list₀) (rw (on .0) (r .fits)) _ k
-          (on .1 ∙ ap (advancedBy c (length block) p (slidBy (c .window) block)) (sym is-signature)) (ap length (on .0) ∙ sym (r .counted)),
-          kept ∙ ap (λ l. writtenList l list₀) (sym (on .0)))
+        let on = open-still c block whole signed some p (r .piece) (ap (endsPiece (c .settings) p) (sym is-signature) ∙ t) in (
+          fine-answer c block (length list₀) (rw (on .0) (r .fits)) _ k
+              (on .1 ∙ ap (advancedBy c (length block) p (slidBy (c .window) block)) (sym is-signature)) (ap length (on .0) ∙ sym (r .counted)),
+          kept ∙ ap (λ l. writtenList l list₀) (sym (on .0)),
+        )
 
     list-long : length list ≡ length list₀
     list-long = ap length kept ∙ written-long (cutsIn c (allButLast block)) list₀ (reaching e .fits)
@@ -116,9 +118,10 @@ module _ (c : Carry) (block : List ℕ) (whole : length (c .window) ≡ 48) (sig
       full-there h =
           let r = reaching e in
           let all = list-long in
-          let longer = grown in
-          (full-answer c block (length list₀) (omega arith),
-            kept ∙ sym (ap (λ l. writtenList l list₀) (at-end .0) ∙ written-more (cutsIn c (allButLast block)) _ list₀ (omega (arith, r .counted))))
+          let longer = grown in (
+            full-answer c block (length list₀) (omega arith),
+            kept ∙ sym (ap (λ l. writtenList l list₀) (at-end .0) ∙ written-more (cutsIn c (allButLast block)) _ list₀ (omega (arith, r .counted))),
+          )
 
       -- it ends there, and the cut is written
       pub ends-there : k < length list
@@ -128,9 +131,10 @@ module _ (c : Carry) (block : List ℕ) (whole : length (c .window) ≡ 48) (sig
           let r = reaching e in
           let all = list-long in
           let longer = grown in
-          let cuts = cutsIn c (allButLast block) in
-          (fine-answer c block (length list₀) (omega arith) _ (k + 1) (at-end .1) longer,
+          let cuts = cutsIn c (allButLast block) in (
+            fine-answer c block (length list₀) (omega arith) _ (k + 1) (at-end .1) longer,
             ap₂ (λ l i. set l i (c .taken + length block)) (kept ∙ written-whole cuts list₀ (r .fits)) (r .counted)
-            ∙ over-more cuts list₀ (c .taken + length block) (omega (arith, r .counted))
-            ∙ sym (written-whole (cuts ++ ((c .taken + length block) ∷ [])) list₀ (simp length-append (omega (arith, r .counted))))
-            ∙ ap (λ l. writtenList l list₀) (sym (at-end .0)))
+                ∙ over-more cuts list₀ (c .taken + length block) (omega (arith, r .counted))
+                ∙ sym (written-whole (cuts ++ ((c .taken + length block) ∷ [])) list₀ (simp length-append (omega (arith, r .counted))))
+                ∙ ap (λ l. writtenList l list₀) (sym (at-end .0)),
+          )

@@ -2,7 +2,7 @@
 ghost use mathlib.Core.Path.{_≡_};
 ghost use Rattle.carry.specs.Carries.{freshCarry};
 ghost use lib.ListN.{length};
-ghost use Rattle.carry.specs.Calls.{refused, closedCarry, freshOf, closeOf, closeList};
+ghost use Rattle.carry.specs.Calls.{refused, closedCarry, freshOf, blockOf, blockList, closeOf, closeList};
 use order::Verdict;
 use terms::Answer;
 use terms::Refusal;
@@ -73,6 +73,33 @@ pub fn fresh(settings: Settings) -> Outcome
         answer: Answer::Wrote(0),
         carry: untouched(settings),
     }
+}
+
+// Takes the next bytes of the log, and writes the cuts among them.
+pub fn block(carry: Carry, bytes: &[u8], list: &mut [u64]) -> Outcome
+    ensures { λ r. ⌜ r ≡ blockOf carry (now (bytes .entry)) (length (now (list .entry))) ⌝ }
+    ensures { λ _. ⌜ now (list .exit) ≡ blockList carry (now (bytes .entry)) (now (list .entry)) ⌝ }
+{
+    let verdict = order::judge(carry);
+    if let Verdict::Wrong(why) = verdict {
+        return refuse(carry, why);
+    }
+    let count = bytes.len() as u64;
+    if carry.taken + count > terms::LONGEST {
+        return refuse(carry, Refusal::LogTooLong);
+    }
+    let minimum = carry.settings.minimum;
+    let places = list.len() as u64;
+    if places < count / minimum + 1 {
+        return refuse(carry, Refusal::RoomTooShort);
+    }
+    if count == 0 {
+        return Outcome {
+            answer: Answer::Wrote(0),
+            carry: carry,
+        };
+    }
+    taking::take_block(carry, bytes, list)
 }
 
 fn shut(carry: Carry) -> Carry

@@ -31,14 +31,15 @@ window-is c = ap (take 48) (c .pre .1 .1 .0) ∙ take-at (c .args .carry .window
 first-cut-requires : tie.Need-first-cut-requires Inv-loop μ-loop
 first-cut-requires c κs =
     let entry = c .before .before .before .before in
-    let long : length (now (entry .args .head)) ≡ length (entry .args .carry .window) + length (take 48 (now (entry .args .block))) = ap length (entry .pre .1 .1 .0) ∙ length-append (entry .args .carry .window) (take 48 (now (entry .args .block))) in
-    ((entry .pre .0 .0, sound entry .below),
-      ((omega (arith, long, sound entry .whole), entry .pre .1 .1 .0 ∙ ap (λ w. w ++ take 48 (now (entry .args .block))) (sym (window-is entry))), entry .pre .1 .1 .1))
+    let long : length (now (entry .args .head)) ≡ length (entry .args .carry .window) + length (take 48 (now (entry .args .block))) = ap length (entry .pre .1 .1 .0) ∙ length-append (entry .args .carry .window) (take 48 (now (entry .args .block))) in (
+      (entry .pre .0 .0, sound entry .below),
+      ((omega (arith, long, sound entry .whole), entry .pre .1 .1 .0 ∙ ap (λ w. w ++ take 48 (now (entry .args .block))) (sym (window-is entry))), entry .pre .1 .1 .1),
+    )
 
 -- where the first offset to look at is known
 begun : (c : tie.After-first-cut Inv-loop μ-loop)
     → let entry = c .before .before .before .before .before in
-      Filling (entry .args .carry) (now (entry .args .block)) (now (entry .args .list)) (now (entry .args .list)) 0 (c .first-cut .result) (entry .args .carry .since + c .first-cut .result)
+    Filling (entry .args .carry) (now (entry .args .block)) (now (entry .args .list)) (now (entry .args .list)) 0 (c .first-cut .result) (entry .args .carry .since + c .first-cut .result)
 begun c =
     let entry = c .before .before .before .before .before in
     start (entry .args .carry) (now (entry .args .block)) (sound entry) (now (entry .args .list)) (c .first-cut .result)

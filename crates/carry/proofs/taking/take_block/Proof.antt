@@ -146,7 +146,7 @@ returns-2 c =
     let ok = sound start in
     let fill = at .before .before .before .before .before .before .before .fill in
     let made = goes-on (start .args .carry) (now (start .args .block)) (ok .whole) (ok .signed) (start .pre .1 .0) (now (start .args .list)) _ (fill .ensures .0) (fill .ensures .1)
-          (c .before .before .before .before .filled .given .1) (at .of-window .result) (signature-is at) (test-failed (c .before .before .ends-piece .ensures) (c .before .if1 .taken)) in
+    (c .before .before .before .before .filled .given .1) (at .of-window .result) (signature-is at) (test-failed (c .before .before .ends-piece .ensures) (c .before .if1 .taken)) in
     (ap₂ wrote (c .advanced .ensures ∙ ap (λ w. advancedBy (start .args .carry) (length (now (start .args .block))) (c .before .before .before .before .filled .given .0 .1 .0) w (at .of-window .result)) (slid-is at)) refl ∙ made .0, made .1)
 
 refuse-requires-2 : tie.Need-refuse-requires-2
@@ -162,7 +162,7 @@ returns-3 c =
     let ok = sound start in
     let fill = at .before .before .before .before .before .before .before .fill in
     let made = full-there (start .args .carry) (now (start .args .block)) (ok .whole) (ok .signed) (start .pre .1 .0) (now (start .args .list)) _ (fill .ensures .0) (fill .ensures .1)
-          (c .before .before .before .before .before .filled .given .1) (at .of-window .result) (signature-is at) (test-passed (c .before .before .before .ends-piece .ensures) (c .before .before .if1 .left)) (c .before .if2 .taken) in
+    (c .before .before .before .before .before .filled .given .1) (at .of-window .result) (signature-is at) (test-passed (c .before .before .before .ends-piece .ensures) (c .before .before .if1 .left)) (c .before .if2 .taken) in
     (c .refuse2 .ensures ∙ made .0, made .1)
 
 add-list : tie.Need-add-list
@@ -171,8 +171,8 @@ add-list c = omega (arith, short-enough (c .before .before .before))
 -- the list has a place left for the cut at the block's end
 place-left : (c : tie.Else2)
     → let at = tested (c .before .before) in
-      (c .before .before .before .before .filled .given .0 .0 < length (now (entry (from at) .args .list)))
-      × (c .before .before .before .before .filled .given .0 .0 < length (at .before .before .before .before .before .before .before .fill .last .1 .1 .1 .0))
+    (c .before .before .before .before .filled .given .0 .0 < length (now (entry (from at) .args .list)))
+    × (c .before .before .before .before .filled .given .0 .0 < length (at .before .before .before .before .before .before .before .fill .last .1 .1 .1 .0))
 place-left c =
     let at = tested (c .before .before) in
     let start = entry (from at) in
@@ -203,7 +203,7 @@ returns-4 c =
     let ok = sound start in
     let fill = at .before .before .before .before .before .before .before .fill in
     let made = ends-there (start .args .carry) (now (start .args .block)) (ok .whole) (ok .signed) (start .pre .1 .0) (now (start .args .list)) _ (fill .ensures .0) (fill .ensures .1)
-          (c .before .before .before .before .before .before .filled .given .1) (at .of-window .result) (signature-is at) (test-passed (c .before .before .before .before .ends-piece .ensures) (c .before .before .before .if1 .left)) (place-left (c .before .before) .1) in
+    (c .before .before .before .before .before .before .filled .given .1) (at .of-window .result) (signature-is at) (test-passed (c .before .before .before .before .ends-piece .ensures) (c .before .before .before .if1 .left)) (place-left (c .before .before) .1) in
     (ap₂ wrote (c .advanced2 .ensures ∙ ap (λ w. advancedBy (start .args .carry) (length (now (start .args .block))) 0 w (at .of-window .result)) (slid-is at)) refl ∙ made .0, made .1)
 
 pub take-block-spec : {M : Type 1} → statement M
