@@ -1,0 +1,69 @@
+-- `sheet::check::check_word` meets its contract. The invariant: the sum so far is that of the first words, modulo 2^32.
+use mathlib.Core.Path.{_≡_, refl, _∙_}
+use Prim.Native.Nat.{_-_, _/_, _%_, _^_, _≤_, _<_}
+use native.Mathlib.Omega.{arith}
+use borrow.Author.Needs.{needs}
+use lib.ListN.{length}
+use Rattle.sheet.specs.Numbers.{numbers, numbersOf}
+use Rattle.sheet.specs.Sheets.{total}
+use Rattle.sheet.proofs.CheckWord.{sum-more, check-is}
+use Rattle.sheet.proofs.check.check_word.Statement.{statement}
+use Rattle.sheet.proofs.check.check_word.Tie as tie
+
+abbrev Inv-loop : tie.InvT-loop
+Inv-loop bytes sum₀ i₀ sum i = (i ≤ length bytes / 4) × (sum ≡ total (numbers 4 i bytes) % 2 ^ 32)
+
+abbrev μ-loop : tie.MeasureT-loop
+μ-loop bytes sum₀ i₀ sum i = length bytes / 4 - i
+
+loop-holds : tie.Need-loop-holds Inv-loop μ-loop
+unfolding numbers total
+loop-holds c = (search needs, refl)
+
+mul-number-at : tie.Need-mul-number-at Inv-loop μ-loop
+mul-number-at c = search needs
+
+number-at-requires : tie.Need-number-at-requires Inv-loop μ-loop
+number-at-requires c κs = search needs
+
+cast-word : tie.Need-cast-word Inv-loop μ-loop
+cast-word c = search needs
+
+wrapping-add-u32-requires : tie.Need-wrapping-add-u32-requires Inv-loop μ-loop
+wrapping-add-u32-requires c κs = search needs
+
+add-i : tie.Need-add-i Inv-loop μ-loop
+add-i c = search needs
+
+loop-less : tie.Need-loop-less Inv-loop μ-loop
+loop-less c = search needs
+
+loop-again : tie.Need-loop-again Inv-loop μ-loop
+loop-again c = (search needs, c .wrapping-add-u32 .ensures ∙ rw (c .before .number-at .ensures .0, c .before .before .before .loop .inv .1) (sum-more _ _))
+
+wrapping-sub-u32-requires : tie.Need-wrapping-sub-u32-requires Inv-loop μ-loop
+wrapping-sub-u32-requires c κs = search needs
+
+returns : tie.Need-returns Inv-loop μ-loop
+unfolding numbersOf
+returns c =
+    let all : c .before .before .loop .i ≡ length (c .before .before .before .before .args .bytes .now) / 4 = omega arith in
+    let small : c .wrapping-sub-u32 .result < 2 ^ 32 = omega arith in
+    check-is _ _ small (rw all at (rw (c .before .before .loop .inv .1) at (c .wrapping-sub-u32 .ensures)))
+
+pub check-word-spec : {M : Type 1} → statement M
+check-word-spec =
+    tie.close
+    (tie.spec
+    Inv-loop
+    μ-loop
+    loop-holds
+    mul-number-at
+    number-at-requires
+    cast-word
+    wrapping-add-u32-requires
+    add-i
+    loop-less
+    loop-again
+    wrapping-sub-u32-requires
+    returns)

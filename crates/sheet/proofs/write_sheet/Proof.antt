@@ -1,0 +1,124 @@
+-- `sheet::write_sheet` meets its contract: at each `return` the tests passed on the way decide the answer, and the answer what the bytes hold.
+use mathlib.Core.Path.{_≡_, sym}
+use mathlib.Core.Bool.{true, false}
+use mathlib.Core.List.{List}
+use Prim.Native.Nat.{ℕ}
+use lib.ListN.{length}
+use native.Mathlib.Omega.{arith}
+use borrow.Author.Needs.{needs}
+use borrow.Author.Tests.{le-leb, lt-leb}
+use Rattle.laws.proofs.Cases.{test-passed, test-failed}
+use Rattle.laws.specs.Over.{over}
+use Rattle.terms.specs.declared.Settings.{Settings}
+use Rattle.terms.specs.declared.Label.{Label}
+use Rattle.terms.specs.declared.Answer.the-variants.{Wrote, Refused}
+use Rattle.terms.specs.declared.Refusal.{Refusal}
+use Rattle.terms.specs.Settings.{inRange}
+use Rattle.terms.proofs.Ranges.{ranges}
+use Rattle.lists.specs.WellFormed.{wellFormed}
+use Rattle.sheet.specs.Sheets.{sheetOf}
+use Rattle.sheet.specs.Write.{writeAnswer, bytesAfter}
+use Rattle.sheet.proofs.write_sheet.Statement.{statement}
+use Rattle.sheet.proofs.write_sheet.Tie as tie
+
+module _ (settings : Settings) (label : Label) (list bytes : List ℕ) where
+  -- what a refusal leaves, and what a success writes
+  refused : {why : Refusal} → writeAnswer settings list (length bytes) ≡ Refused why
+      → (Refused why ≡ writeAnswer settings list (length bytes)) × (bytes ≡ bytesAfter settings label list bytes)
+  unfolding bytesAfter
+  refused e = (sym e, rw (e, bytesAfter))
+
+  wrote : {size : ℕ} {after : List ℕ} → writeAnswer settings list (length bytes) ≡ Wrote size → after ≡ over (sheetOf settings label list) bytes
+      → (Wrote size ≡ writeAnswer settings list (length bytes)) × (after ≡ bytesAfter settings label list bytes)
+  unfolding bytesAfter
+  wrote e f = (sym e, rw (e, bytesAfter) f)
+
+settings-right : (c : tie.Else1) → inRange (c .before .before .before .before .args .settings) ≡ true
+settings-right c = test-passed (c .before .in-range .ensures) (c .if1 .left)
+
+list-right : (c : tie.Else2)
+    → wellFormed (c .before .before .before .before .before .before .args .settings .minimum) (c .before .before .before .before .before .before .args .settings .maximum) (c .before .before .before .before .before .before .args .list .now) ≡ true
+list-right c = test-passed (c .before .well-formed .ensures) (c .if2 .left)
+
+in-range-requires : tie.Need-in-range-requires
+in-range-requires c κs = search needs
+
+returns : tie.Need-returns
+unfolding writeAnswer
+returns c =
+    let e = c .before .before .before .before .args in
+    let outside : inRange (e .settings) ≡ false = test-failed (c .before .in-range .ensures) (c .if1 .taken) in
+    refused (e .settings) (e .label) (e .list .now) (e .bytes .now) (simp outside)
+
+well-formed-requires : tie.Need-well-formed-requires
+well-formed-requires c κs = search needs
+
+returns-2 : tie.Need-returns-2
+unfolding writeAnswer
+returns-2 c =
+    let e = c .before .before .before .before .before .before .args in
+    let malformed : wellFormed (e .settings .minimum) (e .settings .maximum) (e .list .now) ≡ false = test-failed (c .before .well-formed .ensures) (c .if2 .taken) in
+    refused (e .settings) (e .label) (e .list .now) (e .bytes .now) (simp (
+      settings-right (c .before .before),
+      malformed,
+    ))
+
+returns-3 : tie.Need-returns-3
+unfolding writeAnswer
+returns-3 c =
+    let e = c .before .before .before .before .before .before .before .args in
+    refused (e .settings) (e .label) (e .list .now) (e .bytes .now) (simp (
+      settings-right (c .before .before .before),
+      list-right (c .before),
+      lt-leb _ _ (c .if3 .taken),
+    ))
+
+mul-size : tie.Need-mul-size
+mul-size c = search needs
+
+add-size : tie.Need-add-size
+add-size c = search needs
+
+returns-4 : tie.Need-returns-4
+unfolding writeAnswer
+returns-4 c =
+    let e = c .before .before .before .before .before .before .before .before .args in
+    refused (e .settings) (e .label) (e .list .now) (e .bytes .now) (simp (
+      settings-right (c .before .before .before .before),
+      list-right (c .before .before),
+      le-leb _ _ (c .before .if3 .left),
+      lt-leb _ _ (c .if4 .taken),
+    ))
+
+put-sheet-requires : tie.Need-put-sheet-requires
+put-sheet-requires c κs = omega (arith, ranges _ (settings-right (c .before .before .before .before .before)) .few-bits)
+
+same-length : tie.Need-same-length
+same-length c = search needs
+
+returns-5 : tie.Need-returns-5
+unfolding writeAnswer
+returns-5 c =
+    let e = c .before .before .before .before .before .before .before .before .before .before .before .before .args in
+    wrote (e .settings) (e .label) (e .list .now) (e .bytes .now) (simp (
+      settings-right (c .before .before .before .before .before .before .before .before),
+      list-right (c .before .before .before .before .before .before),
+      le-leb _ _ (c .before .before .before .before .before .if3 .left),
+      le-leb _ _ (c .before .before .before .before .if4 .left),
+    )) (c .before .before .put-sheet .ensures)
+
+pub write-sheet-spec : {M : Type 1} → statement M
+write-sheet-spec =
+    tie.close
+    (tie.spec
+    in-range-requires
+    returns
+    well-formed-requires
+    returns-2
+    returns-3
+    mul-size
+    add-size
+    returns-4
+    put-sheet-requires
+    same-length
+    returns-5)

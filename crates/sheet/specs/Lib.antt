@@ -1,0 +1,6 @@
+pub mod Numbers
+pub mod Trailer
+pub mod Sheets
+pub mod Write
+pub mod Read
+pub mod Answers

@@ -1,0 +1,143 @@
+// The trailer of a sheet, each way.
+use crate::numbers::number_at;
+use crate::numbers::put_numbers;
+use terms::Label;
+use terms::Settings;
+ghost use mathlib.Core.Path.{_≡_};
+ghost use Prim.Native.Nat.{_+_, _*_, _≤_, _<_};
+ghost use lib.ListN.{length, take};
+ghost use Rattle.laws.specs.Over.{overFrom};
+ghost use Rattle.sheet.specs.Trailer.{mark, fields, trailerIn, trailerFor, isLabel, trailerRight};
+ghost use Rattle.sheet.specs.Read.{same};
+
+// The fields of a trailer, as they stand in its bytes.
+pub struct Trailer {
+    pub label: u8,
+    pub settings: Settings,
+    pub zeros: u64,
+    pub count: u64,
+    pub distance: u64,
+}
+
+// Whether two runs of bytes are the same.
+pub fn same_bytes(a: &[u8], b: &[u8]) -> bool
+    ensures { λ r. ⌜ r ≡ same (now (a .entry)) (now (b .entry)) ⌝ }
+{
+    if a.len() != b.len() {
+        return false;
+    }
+    let mut i = 0;
+    while i < a.len() {
+        if a[i] != b[i] {
+            return false;
+        }
+        i += 1;
+    }
+    true
+}
+
+// Whether a trailer begins with the mark. It is inner: the caller sees that there are as many bytes.
+pub fn is_marked(trailer: &[u8]) -> bool
+    requires { ⌜ 4 ≤ length (now trailer) ⌝ }
+    ensures { λ r. ⌜ r ≡ same mark (take 4 (now (trailer .entry))) ⌝ }
+{
+    same_bytes(b"CUTS", &trailer[..4])
+}
+
+// The fields of a trailer. It is inner: the caller sees that there are 32 bytes.
+pub fn trailer_in(bytes: &[u8]) -> Trailer
+    requires { ⌜ 32 ≤ length (now bytes) ⌝ }
+    ensures { λ r. ⌜ r ≡ trailerIn (now (bytes .entry)) ⌝ }
+{
+    let bits = bytes[5] as u32;
+    let target = number_at(4, 8, bytes) as u32;
+    let minimum = number_at(4, 12, bytes);
+    let maximum = number_at(4, 16, bytes);
+    Trailer {
+        label: bytes[4],
+        settings: Settings {
+            bits,
+            target,
+            minimum,
+            maximum,
+        },
+        zeros: number_at(2, 6, bytes),
+        count: number_at(4, 20, bytes),
+        distance: number_at(4, 24, bytes),
+    }
+}
+
+// Whether a byte stands for a label.
+fn is_label(byte: u8) -> bool
+    ensures { λ r. ⌜ r ≡ isLabel byte ⌝ }
+{
+    if byte == b'P' {
+        return true;
+    }
+    if byte == b'L' {
+        return true;
+    }
+    false
+}
+
+// Whether a trailer's fields are right where so many bytes stand before it.
+pub fn is_right(before: u64, trailer: Trailer) -> bool
+    ensures { λ r. ⌜ r ≡ trailerRight before trailer ⌝ }
+{
+    if !is_label(trailer.label) {
+        return false;
+    }
+    let settings = trailer.settings;
+    if !settings.in_range() {
+        return false;
+    }
+    if trailer.zeros != 0 {
+        return false;
+    }
+    let count = trailer.count;
+    if count > 1_048_576 {
+        return false;
+    }
+    let distance = trailer.distance;
+    if distance != 8 * count {
+        return false;
+    }
+    if distance > before {
+        return false;
+    }
+    true
+}
+
+// Writes a run of bytes at a place. It is inner: the caller sees that there is room.
+pub fn put_bytes(part: &[u8], at: usize, bytes: &mut [u8])
+    requires { ⌜ at + length (now part) ≤ length (now bytes) ⌝ }
+    ensures { λ _. ⌜ now (bytes .exit) ≡ overFrom at (now (part .entry)) (now (bytes .entry)) ⌝ }
+{
+    let mut i = 0;
+    while i < part.len() {
+        bytes[at + i] = part[i];
+        i += 1;
+    }
+}
+
+// Writes the trailer of a sheet of count cuts, up to its check word, after a body of as many. It is inner: the caller sees that
+// K is a byte and that there is room.
+pub fn put_fields(settings: Settings, label: Label, count: usize, bytes: &mut [u8])
+    requires { ⌜ (settings .bits < 256) × (8 * count + 28 ≤ length (now bytes)) ⌝ }
+    ensures { λ _. ⌜ now (bytes .exit) ≡ overFrom (8 * count) (fields (trailerFor settings label count)) (now (bytes .entry)) ⌝ }
+{
+    let at = 8 * count;
+    put_bytes(b"CUTS", at, bytes);
+    let bits = settings.bits;
+    let signs: [u8; 4] = [label.byte(), bits as u8, 0, 0];
+    put_bytes(&signs, at + 4, bytes);
+    let target = settings.target;
+    let numbers: [u64; 5] = [
+        target as u64,
+        settings.minimum,
+        settings.maximum,
+        count as u64,
+        at as u64,
+    ];
+    put_numbers(4, &numbers, at + 8, bytes);
+}
