@@ -13,7 +13,7 @@ use lib.Dec.{lit<}
 use Rattle.laws.proofs.Cases.{by-lt}
 use Rattle.laws.proofs.Writing.{over-more, overFrom-next, overFrom-join}
 use Rattle.laws.specs.Over.{over, overFrom}
-use Rattle.sheet.specs.Numbers.{bigEndian, number, written, numbers, numbersOf, numberAt}
+use Rattle.sheet.specs.Numbers.{bigEndian, number, written, numbers, numberAt}
 
 -- a byte more is 256 times as many
 pub pow-byte : (k : ℕ) → 2 ^ (8 * suc k) ≡ 2 ^ (8 * k) * 256

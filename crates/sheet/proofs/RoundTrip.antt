@@ -1,17 +1,16 @@
 -- A sheet that is written reads again, with any bytes before it: the same label, settings and list.
 use mathlib.Core.Path.{_≡_, refl, sym, ap, _∙_}
-use mathlib.Core.Bool.{Bool, true, false, _&&_}
+use mathlib.Core.Bool.{true}
 use mathlib.Core.List.{List, [], _∷_, _++_, append-assoc, append-nil}
-use Prim.Native.Nat.{ℕ, zero, suc, _+_, _-_, _*_, _/_, _%_, _^_, _≤_, _<_}
+use Prim.Native.Nat.{ℕ, zero, suc, _+_, _-_, _*_, _/_, _^_, _≤_, _<_}
 use native.Mathlib.Omega.{arith}
-use native.Mathlib.Nat.{mod-eq-of-lt, mod-lt, mul-div-cancel-left, le-trans}
-use lib.Pow.{pow-pos, pow-mono}
-use lib.Dec.{leb, eqb, lit<}
-use lib.ListN.{length, take, drop, getD, length-append}
+use native.Mathlib.Nat.{mod-eq-of-lt, mul-div-cancel-left}
+use lib.Pow.{pow-mono}
+use lib.Dec.{lit<}
+use lib.ListN.{length, length-append}
 use lib.Seq.{take-append-seam, drop-append-seam, take-all}
 use borrow.Author.Tests.{eq-eqb, le-leb, ltb-true, leb-true}
 use Rattle.laws.proofs.Cases.{both-true}
-use Rattle.laws.specs.Over.{over}
 use Rattle.terms.specs.declared.Settings.{Settings}
 use Rattle.terms.specs.declared.Label.{Label}
 use Rattle.terms.specs.declared.Label.the-variants.{Practice, Live}
@@ -20,14 +19,14 @@ use Rattle.terms.specs.Settings.{inRange}
 use Rattle.terms.proofs.Ranges.{ranges}
 use Rattle.lists.specs.WellFormed.{wellFormed, stepsFit, stepFits}
 use Rattle.sheet.specs.declared.trailer.Trailer.{Trailer}
-use Rattle.sheet.specs.Numbers.{bigEndian, number, written, numbers, numbersOf, numberAt}
-use Rattle.sheet.specs.Trailer.{mark, mostCuts, isLabel, fields, trailerIn, trailerFor, trailerRight}
+use Rattle.sheet.specs.Numbers.{bigEndian, number, written, numbersOf, numberAt}
+use Rattle.sheet.specs.Trailer.{mostCuts, isLabel, fields, trailerIn, trailerFor, trailerRight}
 use Rattle.sheet.specs.Sheets.{checkWord, checked, withCheck, sheetOf}
-use Rattle.sheet.specs.Read.{same, trailerBytes, trailerOf, sheetIn, listIn, hasTrailer, hasList, readAnswer, listAfter}
+use Rattle.sheet.specs.Read.{same, trailerBytes, trailerOf, sheetIn, listIn, hasTrailer, hasList, readAnswer}
 use Rattle.sheet.proofs.BigEndian.{length-bigEndian, length-written, number-bigEndian}
 use Rattle.sheet.proofs.CheckWord.{checkWord-lt}
 use Rattle.sheet.proofs.Back.{Wide, numbers-written}
-use Rattle.sheet.specs.declared.Sheet.the-variants.{Read, Refused}
+use Rattle.sheet.specs.declared.Sheet.the-variants.{Read}
 use Rattle.sheet.proofs.Reading.{judged}
 use Rattle.sheet.proofs.Parts.{length-fields, length-front}
 
@@ -57,7 +56,7 @@ numberAt-back : (width n : ℕ) → n < 2 ^ (8 * width) → number (bigEndian wi
 numberAt-back width n h = number-bigEndian width n ∙ mod-eq-of-lt h
 
 -- the fields are found where they were written, whatever follows
-pub trailer-back : (t : Trailer) (rest : List ℕ) → inRange (t .settings) ≡ true → t .zeros < 65536 → t .count ≤ mostCuts → t .distance ≤ 8 * mostCuts → trailerIn (fields t ++ rest) ≡ t
+trailer-back : (t : Trailer) (rest : List ℕ) → inRange (t .settings) ≡ true → t .zeros < 65536 → t .count ≤ mostCuts → t .distance ≤ 8 * mostCuts → trailerIn (fields t ++ rest) ≡ t
 unfolding trailerIn fields written numberAt bigEndian
 trailer-back t rest ok zeros count distance =
     let r = ranges (t .settings) ok in
@@ -77,7 +76,7 @@ trailer-back t rest ok zeros count distance =
 
 -- where the parts of a sheet stand, with any bytes before it
 module _ (before body front word : List ℕ) (has-fields : length front ≡ 28) (has-word : length word ≡ 4) where
-  pub trailer-part : trailerBytes (before ++ (body ++ front ++ word)) ≡ front ++ word
+  trailer-part : trailerBytes (before ++ (body ++ front ++ word)) ≡ front ++ word
   unfolding trailerBytes
   trailer-part =
       let regroup : before ++ (body ++ front ++ word) ≡ before ++ body ++ (front ++ word) = simp append-assoc in
@@ -85,14 +84,14 @@ module _ (before body front word : List ℕ) (has-fields : length front ≡ 28) 
       rw (length-append (before ++ body) (front ++ word), length-append front word, has-fields, has-word) (omega arith) in
       rw (regroup, place) (drop-append-seam (before ++ body) (front ++ word))
 
-  pub sheet-part : trailerOf (before ++ (body ++ front ++ word)) .distance ≡ length body → sheetIn (before ++ (body ++ front ++ word)) ≡ body ++ front ++ word
+  sheet-part : trailerOf (before ++ (body ++ front ++ word)) .distance ≡ length body → sheetIn (before ++ (body ++ front ++ word)) ≡ body ++ front ++ word
   unfolding sheetIn
   sheet-part e =
       let place : length (before ++ (body ++ front ++ word)) - 32 - length body ≡ length before =
       rw (length-append before (body ++ front ++ word), length-append (body ++ front) word, length-append body front, has-fields, has-word) (omega arith) in
       rw (e, place) (drop-append-seam before (body ++ front ++ word))
 
-  pub list-part : trailerOf (before ++ (body ++ front ++ word)) .distance ≡ length body → listIn (before ++ (body ++ front ++ word)) ≡ numbersOf 8 body
+  list-part : trailerOf (before ++ (body ++ front ++ word)) .distance ≡ length body → listIn (before ++ (body ++ front ++ word)) ≡ numbersOf 8 body
   unfolding listIn
   list-part e = rw (sheet-part e, e, append-assoc, take-append-seam body (front ++ word))
 

@@ -2,7 +2,6 @@
 use mathlib.Core.Path.{_≡_, refl, sym, _∙_}
 use Prim.Native.Nat.{_-_, _/_, _≤_}
 use lib.ListN.{length, drop}
-use native.Mathlib.Omega.{arith}
 use borrow.Author.Needs.{needs}
 use borrow.Author.Tests.{le-leb, lt-leb, not-true, not-false}
 use Rattle.lists.specs.WellFormed.{stepsFit, wellFormed}
@@ -10,10 +9,6 @@ use Rattle.sheet.specs.Numbers.{numbersOf}
 use Rattle.sheet.proofs.Offsets.{offset-passed, offset-refused, offsets-end}
 use Rattle.sheet.proofs.is_well_formed.Statement.{statement}
 use Rattle.sheet.proofs.is_well_formed.Tie as tie
-use Rattle.sheet.proofs.is_well_formed.Reads as reads
-use Rattle.sheet.proofs.is_well_formed.Lts as lts
-use Rattle.lists.proofs.step_fits.Reads as step-fits-reads
-use Rattle.sheet.proofs.numbers.number_at.Reads as number-at-reads
 
 abbrev Inv-loop : tie.InvT-loop
 Inv-loop minimum maximum body count before₀ i₀ before i =

@@ -1,15 +1,11 @@
 -- `sheet::check::is_checked` meets its contract: the word found is compared with the check word of what stands before it.
-use mathlib.Core.Path.{_≡_, sym}
+use mathlib.Core.Path.{sym}
 use lib.Seq.{length-take-le}
 use native.Mathlib.Omega.{arith}
 use borrow.Author.Needs.{needs}
 use Rattle.sheet.proofs.CheckWord.{checked-true, checked-false}
 use Rattle.sheet.proofs.check.is_checked.Statement.{statement}
 use Rattle.sheet.proofs.check.is_checked.Tie as tie
-use Rattle.sheet.proofs.check.is_checked.Reads as reads
-use Rattle.sheet.proofs.check.is_checked.Lts as lts
-use Rattle.sheet.proofs.check.check_word.Reads as check-word-reads
-use Rattle.sheet.proofs.numbers.number_at.Reads as number-at-reads
 
 sub-before : tie.Need-sub-before
 sub-before c = search needs

@@ -1,6 +1,6 @@
 -- `sheet::numbers::take_offsets` meets its contract. The invariant: the body's first offsets are written over what was there.
-use mathlib.Core.Path.{_≡_, refl, sym, ap, _∙_}
-use Prim.Native.Nat.{_+_, _-_, _/_, _≤_, _<_}
+use mathlib.Core.Path.{_≡_, refl, sym}
+use Prim.Native.Nat.{_-_, _/_, _≤_}
 use native.Mathlib.Omega.{arith}
 use borrow.Author.Needs.{needs}
 use lib.ListN.{length, length-set}
@@ -10,9 +10,6 @@ use Rattle.sheet.specs.Numbers.{numbers, numbersOf}
 use Rattle.sheet.proofs.BigEndian.{offset-written}
 use Rattle.sheet.proofs.numbers.take_offsets.Statement.{statement}
 use Rattle.sheet.proofs.numbers.take_offsets.Tie as tie
-use Rattle.sheet.proofs.numbers.take_offsets.Reads as reads
-use Rattle.sheet.proofs.numbers.take_offsets.Lts as lts
-use Rattle.sheet.proofs.numbers.number_at.Reads as number-at-reads
 
 abbrev Inv-loop : tie.InvT-loop
 Inv-loop body list₀ i₀ list i = (i ≤ length body / 8) × (list ≡ over (numbers 8 i body) list₀) × (length list ≡ length list₀)

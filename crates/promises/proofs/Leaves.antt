@@ -1,0 +1,84 @@
+-- `refused-leaves`: what a refusal leaves in lent memory. Beside every number but 17 it is as it was; 17, the guard, keeps the cuts written.
+use Prim.Native.Nat.{ℕ}
+use mathlib.Core.Path.{_≡_, refl, sym, _∙_}
+use mathlib.Core.Bool.{Bool, true, false}
+use mathlib.Core.List.{List}
+use native.Mathlib.Omega.{arith}
+use lib.Dec.{leb}
+use lib.ListN.{length, take}
+use Rattle.laws.specs.Over.{over}
+use Rattle.terms.specs.declared.Settings.{Settings}
+use Rattle.terms.specs.declared.Label.{Label}
+use Rattle.terms.specs.declared.Answer.{Answer}
+use Rattle.terms.specs.declared.Answer.the-variants.{Wrote, Refused}
+use Rattle.terms.specs.Settings.{inRange}
+use Rattle.terms.specs.Answers.{answerNumber, unless, longest, roomFor}
+use Rattle.lists.specs.WellFormed.{wellFormed, lengthOf}
+use Rattle.cutting.specs.Marks.{cutList}
+use Rattle.cutting.specs.WholeLog.{cutLogAnswer, cutLogList, writtenAnswer, writtenList}
+use Rattle.amending.specs.Parts.{amendedList}
+use Rattle.amending.specs.Answers.{amendmentNumber, newCutsOf, editFits, partsAnswer, amendAnswer, amendList}
+use Rattle.sheet.specs.declared.Sheet.{Sheet}
+use Rattle.sheet.specs.declared.Sheet.the-variants as sheet
+use Rattle.sheet.specs.Write.{writeAnswer, bytesAfter}
+use Rattle.sheet.specs.Read.{readAnswer, listAfter}
+use Rattle.sheet.specs.Answers.{sheetNumber}
+
+-- lent memory before and after a call that answered a number, and the cuts that it would write
+pub record Leaves (number : ℕ) (before after cuts : List ℕ) : Type 0 where
+  pub untouched : (number ≡ 0 → ⊥) → (number ≡ 17 → ⊥) → after ≡ before
+  pub guarded : number ≡ 17 → after ≡ over (take (length before) cuts) before
+
+-- a row leaves memory as it was
+row-leaves : {A : Type 0} (number : A → ℕ) (passes : Bool) {refused answer : A} {before after cuts : List ℕ} → (number refused ≡ 17 → ⊥)
+    → Leaves (number answer) before after cuts → Leaves (number (unless passes refused answer)) before (unless passes before after) cuts
+row-leaves number true other later = later
+row-leaves number false other later = record { untouched = λ refusal guard. refl; guarded = λ guard. absurd (other guard) }
+
+-- the guard keeps what is written
+guard-leaves : {A : Type 0} (number : A → ℕ) (fits : Bool) {refused answer : A} (cuts list : List ℕ) → number refused ≡ 17 → number answer ≡ 0
+    → Leaves (number (unless fits refused answer)) list (writtenList cuts list) cuts
+unfolding writtenList
+guard-leaves number true cuts list full fine =
+    record { untouched = λ refusal guard. absurd (refusal fine); guarded = λ guard. absurd (omega (arith, sym fine ∙ guard)) }
+guard-leaves number false cuts list full fine = record { untouched = λ refusal guard. absurd (guard full); guarded = λ guard. refl }
+
+pub whole-log-leaves : (s : Settings) (log list : List ℕ)
+    → Leaves (answerNumber (cutLogAnswer s log (length list))) list (cutLogList s log list) (cutList s log)
+unfolding cutLogAnswer cutLogList writtenAnswer answerNumber
+whole-log-leaves s log list =
+    row-leaves answerNumber (inRange s) (omega arith)
+    (row-leaves answerNumber (leb (length log) longest) (omega arith)
+    (row-leaves answerNumber (leb (roomFor (s .minimum) (length log)) (length list)) (omega arith)
+    (guard-leaves answerNumber (leb (length (cutList s log)) (length list)) (cutList s log) list refl refl)))
+
+pub amend-leaves : (s : Settings) (old : List ℕ) (at removed added : ℕ) (log list : List ℕ)
+    → Leaves (amendmentNumber (amendAnswer s old at removed added log (length list))) list (amendList s old at removed added log list)
+    (amendedList (newCutsOf s log) old at removed added)
+unfolding amendAnswer amendList partsAnswer amendmentNumber
+amend-leaves s old at removed added log list =
+    let cuts = amendedList (newCutsOf s log) old at removed added in
+    row-leaves amendmentNumber (inRange s) (omega arith)
+    (row-leaves amendmentNumber (wellFormed (s .minimum) (s .maximum) old) (omega arith)
+    (row-leaves amendmentNumber (editFits (lengthOf old) at removed added (length log)) (omega arith)
+    (row-leaves amendmentNumber (leb (length log) longest) (omega arith)
+    (row-leaves amendmentNumber (leb (roomFor (s .minimum) (length log)) (length list)) (omega arith)
+    (guard-leaves amendmentNumber (leb (length cuts) (length list)) cuts list refl refl)))))
+
+pub write-sheet-leaves : (s : Settings) (label : Label) (list bytes : List ℕ) → (answerNumber (writeAnswer s list (length bytes)) ≡ 0 → ⊥)
+    → bytesAfter s label list bytes ≡ bytes
+unfolding bytesAfter answerNumber
+write-sheet-leaves s label list bytes refusal = by-answer (writeAnswer s list (length bytes)) refl
+  where
+    by-answer : (answer : Answer) → writeAnswer s list (length bytes) ≡ answer → bytesAfter s label list bytes ≡ bytes
+    by-answer (Wrote size) e = absurd (refusal (rw e))
+    by-answer (Refused why) e = rw (e, bytesAfter)
+
+pub read-sheet-leaves : (bytes : List ℕ) (asked : Label) (list : List ℕ) → (sheetNumber (readAnswer bytes asked (length list)) ≡ 0 → ⊥)
+    → listAfter bytes asked list ≡ list
+unfolding listAfter sheetNumber
+read-sheet-leaves bytes asked list refusal = by-answer (readAnswer bytes asked (length list)) refl
+  where
+    by-answer : (answer : Sheet) → readAnswer bytes asked (length list) ≡ answer → listAfter bytes asked list ≡ list
+    by-answer (sheet.Read label settings count) e = absurd (refusal (rw e))
+    by-answer (sheet.Refused why) e = rw (e, listAfter)
