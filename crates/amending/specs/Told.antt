@@ -1,4 +1,4 @@
--- The same parts as statements, in document 01's words: proofs/Parts.antt shows that they hold of the parts.
+-- The same parts as statements, in document 01's words: proofs/Told.antt shows that they hold of the parts.
 use Prim.Native.Nat.{ℕ, _+_, _≤_, _<_}
 use mathlib.Core.Path.{_≡_}
 use mathlib.Core.List.{List, [], _∷_, _++_, map}
