@@ -1,14 +1,14 @@
 -- The amended list of a true old list is the new log cut afresh. Two facts about the two logs' next cuts carry it: what was cut at or
 -- below the change's place, the old end excepted, is cut again; and past the change the two logs' cuts lie alike.
-use Prim.Native.Nat.{ℕ, zero, suc, _+_, _-_, _≤_, _<_}
+use Prim.Native.Nat.{ℕ, _+_, _-_, _≤_, _<_}
 use mathlib.Core.Path.{_≡_, refl, sym, ap, ap₂, _∙_, subst}
-use mathlib.Core.Bool.{Bool, true, false}
+use mathlib.Core.Bool.{true}
 use mathlib.Core.List.{List, [], _∷_, _++_, map}
 use native.Mathlib.Omega.{arith}
 use Rattle.laws.specs.Last.{lastOr}
 use Rattle.rule.specs.Rule.{chain}
-use Rattle.rule.proofs.Chain.{Run, stay, onward, Rising, parted, whole, chains-alike}
-use Rattle.amending.specs.Parts.{front, pastFront, restart, before, since, wasAt, meets, moved, backFrom, recut, back, amendedList}
+use Rattle.rule.proofs.Chain.{Run, onward, Rising, parted, whole, chains-alike}
+use Rattle.amending.specs.Parts.{restart, before, since, wasAt, meets, moved, backFrom, recut, back, amendedList}
 use Rattle.amending.proofs.Split.{Split, split, joined, heads}
 use Rattle.amending.proofs.Front.{Front, front-is, front-joined, restarts-low}
 use Rattle.amending.proofs.Meets.{placed}

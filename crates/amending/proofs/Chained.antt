@@ -1,24 +1,23 @@
 -- From any well-formed old list, true or not: the amended list is well formed and ends at the new length, so that amendments can be
 -- chained; and a meeting exists where there is an old end and a new cut to meet it.
-use Prim.Native.Nat.{ℕ, zero, suc, _+_, _-_, _^_, _≤_, _<_}
-use mathlib.Core.Path.{_≡_, refl, sym, ap, _∙_, subst}
-use mathlib.Core.Bool.{Bool, true, false, _&&_, not}
-use mathlib.Core.List.{List, [], _∷_, _++_, map, append-nil}
+use Prim.Native.Nat.{ℕ, _+_, _-_, _^_, _≤_, _<_}
+use mathlib.Core.Path.{_≡_, refl, ap, _∙_, subst}
+use mathlib.Core.Bool.{Bool, true, false}
+use mathlib.Core.List.{List, [], _∷_, _++_, map}
 use native.Mathlib.Omega.{arith}
-use lib.Dec.{leb, eqb}
 use lib.ListN.{length}
 use borrow.Author.Tests.{le-leb, eq-eqb}
 use Rattle.laws.proofs.Cases.{by-test}
 use Rattle.laws.specs.Last.{lastOr}
-use Rattle.lists.specs.WellFormed.{isEmpty, stepsFit, wellFormed, lengthOf}
-use Rattle.rule.specs.Rule.{next, chain, cutsFrom}
+use Rattle.lists.specs.WellFormed.{isEmpty, wellFormed, lengthOf}
+use Rattle.rule.specs.Rule.{next, cutsFrom}
 use Rattle.rule.proofs.Chain.{Run, stay, onward, whole}
 use Rattle.rule.proofs.Next.{next-step, rising}
 use Rattle.amending.specs.Parts.{front, pastFront, restart, before, since, wasAt, meets, moved, backFrom, recut, back, amendedList}
 use Rattle.amending.proofs.Split.{Split, split, joined, heads}
 use Rattle.amending.proofs.Front.{Front, none-old, old-end, beyond, kept, front-is, front-joined, restarts-low, past-some}
 use Rattle.amending.proofs.Meets.{placed}
-use Rattle.amending.proofs.Steps.{Steps, rest-here, stride, Reaches, there, last-step, full-step, reaches, fits, reaches-last, reaches-up, steps-before, reaches-after, steps-joined, first-step}
+use Rattle.amending.proofs.Steps.{Steps, rest-here, stride, Reaches, there, last-step, full-step, reaches, fits, reaches-last, steps-before, reaches-after, steps-joined, first-step}
 
 -- the rule's cuts after c reach the log's end
 pub cuts-reach : (mark : ℕ → Bool) (lo hi n : ℕ) → 0 < lo → lo ≤ hi → (c : ℕ) → c ≤ n → Reaches lo hi c (cutsFrom mark lo hi n c) n

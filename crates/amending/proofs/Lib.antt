@@ -2,6 +2,7 @@ pub mod Split
 pub mod Front
 pub mod Meets
 pub mod Runs
+pub mod Again
 pub mod Amended
 pub mod ByMarks
 pub mod Steps

@@ -1,11 +1,11 @@
 -- What the test of a meeting says: where a new cut meets, the old cut it meets, and the old cuts from there on.
 use Prim.Native.Nat.{ℕ, _+_, _≤_}
-use mathlib.Core.Path.{_≡_, refl, sym, _∙_}
-use mathlib.Core.Bool.{Bool, true, false, _&&_, not}
+use mathlib.Core.Path.{_≡_}
+use mathlib.Core.Bool.{true, not}
 use mathlib.Core.List.{List, [], _∷_, _++_}
 use native.Mathlib.Omega.{arith}
-use lib.Dec.{leb, eqb}
-use borrow.Author.Tests.{leb-true, le-leb, eqb-true, eq-eqb}
+use lib.Dec.{leb}
+use borrow.Author.Tests.{leb-true, eqb-true}
 use Rattle.laws.proofs.Cases.{both-true}
 use Rattle.lists.specs.WellFormed.{isEmpty}
 use Rattle.amending.specs.Parts.{before, since, wasAt, meets}

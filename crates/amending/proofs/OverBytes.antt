@@ -1,9 +1,9 @@
 -- Demand 3 over bytes: the amended list of a true list is the new log cut afresh; new bytes outside the recut stretch cannot alter the
 -- answer; the parts are what document 01 says, a meeting exists, and amendments can be chained.
-use Prim.Native.Nat.{ℕ, zero, suc, _+_, _-_, _^_, _≤_, _<_, min}
-use mathlib.Core.Path.{_≡_, refl, sym, ap, ap₂, _∙_, subst}
-use mathlib.Core.Bool.{Bool, true, false, _&&_}
-use mathlib.Core.List.{List, [], _∷_, _++_, append-assoc}
+use Prim.Native.Nat.{ℕ, _+_, _-_, _≤_, _<_}
+use mathlib.Core.Path.{_≡_, refl, sym, ap, ap₂, _∙_}
+use mathlib.Core.Bool.{Bool, true, false}
+use mathlib.Core.List.{List, _++_, append-assoc}
 use native.Mathlib.Omega.{arith}
 use lib.Dec.{leb}
 use lib.ListN.{length, getD, take, drop, length-append, length-drop}
@@ -17,7 +17,7 @@ use Rattle.terms.specs.Settings.{inRange}
 use Rattle.terms.specs.Answers.{longest, roomFor, unless}
 use Rattle.terms.proofs.Ranges.{ranges}
 use Rattle.lists.specs.WellFormed.{wellFormed, lengthOf}
-use Rattle.rule.specs.Rule.{cutsFrom, cuts}
+use Rattle.rule.specs.Rule.{cutsFrom}
 use Rattle.signature.specs.Signatures.{window}
 use Rattle.cutting.specs.Marks.{mark, cutList}
 use Rattle.cutting.specs.WholeLog.{writtenList, cutLogList}

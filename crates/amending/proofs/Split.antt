@@ -1,6 +1,6 @@
 -- A list parted at the first entry that passes a test: what the two parts are, and that nothing else is.
 use Prim.Native.Nat.{ℕ}
-use mathlib.Core.Path.{_≡_, refl, sym, ap, _∙_}
+use mathlib.Core.Path.{_≡_, refl, ap}
 use mathlib.Core.Bool.{Bool, true, false}
 use mathlib.Core.List.{List, [], _∷_, _++_}
 use Rattle.laws.proofs.Cases.{by-test}

@@ -1,10 +1,9 @@
 -- Well-formed lists as data: steps from minimum to maximum, and lists whose last step may be short.
-use Prim.Native.Nat.{ℕ, zero, suc, _+_, _-_, _^_, _≤_, _<_}
-use mathlib.Core.Path.{_≡_, refl, sym, ap, ap₂, _∙_, subst}
-use mathlib.Core.Bool.{Bool, true, false, _&&_, _||_}
-use mathlib.Core.List.{List, [], _∷_, _++_, map}
+use Prim.Native.Nat.{ℕ, _+_, _-_, _^_, _≤_, _<_}
+use mathlib.Core.Path.{_≡_, refl}
+use mathlib.Core.Bool.{Bool, true, false}
+use mathlib.Core.List.{List, [], _∷_, _++_}
 use native.Mathlib.Omega.{arith}
-use lib.Dec.{leb, ltb}
 use borrow.Author.Tests.{leb-true, ltb-true, le-leb, lt-ltb}
 use Rattle.laws.proofs.Cases.{both-true}
 use Rattle.laws.specs.Last.{lastOr}

@@ -1,16 +1,16 @@
 -- New bytes outside the recut stretch cannot alter the answer: two new logs of one length whose next cuts agree up to the stretch's end
 -- have the same recut and the same back.
-use Prim.Native.Nat.{ℕ, zero, suc, _+_, _-_, _≤_, _<_}
+use Prim.Native.Nat.{ℕ, _+_, _-_, _≤_, _<_}
 use mathlib.Core.Path.{_≡_, refl, sym, ap, _∙_, subst}
-use mathlib.Core.Bool.{Bool, true, false}
-use mathlib.Core.List.{List, [], _∷_, _++_, append-nil, append-assoc}
+use mathlib.Core.Bool.{Bool}
+use mathlib.Core.List.{List, [], _∷_, _++_, append-assoc}
 use native.Mathlib.Omega.{arith}
-use Rattle.laws.specs.Last.{lastOr}
-use Rattle.rule.specs.Rule.{next, chain, cutsFrom, NextCut, first-mark, forced, log-ends}
+use Rattle.rule.specs.Rule.{next, chain, cutsFrom}
 use Rattle.rule.proofs.Chain.{Run, stay, onward, Rising, parted, whole, run-joined}
-use Rattle.rule.proofs.Next.{next-is, next-only, rising}
-use Rattle.amending.specs.Parts.{pastFront, restart, before, since, meets, backFrom, firstOr, recut, back, amendedList, stretchEnd}
-use Rattle.amending.proofs.Split.{Split, nowhere, here, later, split, joined, heads, before-is, since-is}
+use Rattle.rule.proofs.Next.{next-step, rising}
+use Rattle.amending.specs.Parts.{pastFront, restart, before, since, meets, backFrom, firstOr, recut, back, stretchEnd}
+use Rattle.amending.proofs.Split.{Split, here, later, split, joined, before-is, since-is}
+use Rattle.amending.proofs.Again.{next-again}
 use Rattle.amending.proofs.Runs.{run-front, run-after, run-head, run-all, run-kept-from}
 
 -- the same front and the same first passing entry, whatever comes after it
@@ -41,23 +41,13 @@ module _ (next next′ : ℕ → ℕ) (n : ℕ) (ok : Rising next n) (ok′ : Ri
       let parts′ : Split (meets s d e past) news′ p (t ∷ k) = subst (λ l. Split (meets s d e past) l p (t ∷ k)) same (same-split t k parts) in
       (before-is (meets s d e past) parts′, ap (backFrom d e past) (since-is (meets s d e past) parts′))
 
--- the next cut is the same where the marks are the same up to it
-next-same : (mark mark′ : ℕ → Bool) (lo hi n c : ℕ) → ((q : ℕ) → c + lo ≤ q → q ≤ next mark lo hi n c → mark q ≡ mark′ q)
-    → next mark′ lo hi n c ≡ next mark lo hi n c
-next-same mark mark′ lo hi n c same = next-only mark′ lo hi n c (again (next-is mark lo hi n c) same)
-  where
-    again : {r : ℕ} → NextCut mark lo hi n c r → ((q : ℕ) → c + lo ≤ q → q ≤ r → mark q ≡ mark′ q) → NextCut mark′ lo hi n c r
-    again (first-mark r a b h m u) same = first-mark r a b h (sym (same r a (omega arith)) ∙ m) (λ q p k. sym (same q p (omega arith)) ∙ u q p k)
-    again (forced h u) same = forced h (λ q p k. sym (same q p (omega arith)) ∙ u q p k)
-    again (log-ends h u) same = log-ends h (λ q p k. sym (same q p (omega arith)) ∙ u q p k)
-
 module _ (mark mark′ : ℕ → Bool) (lo hi n : ℕ) (positive : 0 < lo) (order : lo ≤ hi) (old : List ℕ) (s d e : ℕ) (inside : restart s old ≤ n)
     (same : (q : ℕ) → restart s old + lo ≤ q → q ≤ stretchEnd (cutsFrom mark lo hi n) old s d e n → mark q ≡ mark′ q) where
   both-same : (recut (cutsFrom mark′ lo hi n) old s d e ≡ recut (cutsFrom mark lo hi n) old s d e) × (back (cutsFrom mark′ lo hi n) old s d e ≡ back (cutsFrom mark lo hi n) old s d e)
   unfolding cutsFrom recut back stretchEnd
   both-same =
       parts-same (next mark lo hi n) (next mark′ lo hi n) n (rising mark lo hi n positive order) (rising mark′ lo hi n positive order) (restart s old) inside s d e (pastFront s old)
-      _ _ _ refl refl (λ x from b near. next-same mark mark′ lo hi n x (λ q far low. same q (omega arith) (omega arith))) (split _ _)
+      _ _ _ refl refl (λ x from b near. next-again mark mark′ lo hi n n x (next-step mark lo hi n x order .inside) (λ e. refl) (λ q far low. same q (omega arith) (omega arith))) (split _ _)
 
   pub recut-same : recut (cutsFrom mark′ lo hi n) old s d e ≡ recut (cutsFrom mark lo hi n) old s d e
   recut-same = both-same .0

@@ -1,19 +1,17 @@
 -- The parts are what document 01 says: the front of a well-formed list; the recut up to the first new cut that meets, and the back from there.
-use Prim.Native.Nat.{ℕ, zero, suc, _+_, _-_, _≤_, _<_}
-use mathlib.Core.Path.{_≡_, refl, sym, ap, _∙_, subst}
-use mathlib.Core.Bool.{Bool, true, false, _&&_, not}
-use mathlib.Core.List.{List, [], _∷_, _++_, map, append-nil}
+use Prim.Native.Nat.{ℕ, _+_, _≤_, _<_}
+use mathlib.Core.Path.{_≡_, refl, sym, _∙_, subst}
+use mathlib.Core.Bool.{Bool, true, false, not}
+use mathlib.Core.List.{List, [], _∷_, append-nil}
 use native.Mathlib.Omega.{arith}
-use lib.Dec.{leb, eqb}
 use borrow.Author.Tests.{eqb-false, le-leb}
-use Rattle.laws.specs.Last.{lastOr}
 use Rattle.lists.specs.WellFormed.{isEmpty, wellFormed, lengthOf}
-use Rattle.amending.specs.Parts.{front, pastFront, before, since, wasAt, meets, moved, backFrom}
+use Rattle.amending.specs.Parts.{front, pastFront, before, since, wasAt, meets, backFrom}
 use Rattle.amending.specs.Told.{Each, none, and-each, FrontTold, NoMeeting, Recut, meeting, no-meeting}
 use Rattle.amending.specs.Inner.{Ascends, nothing-more, higher}
 use Rattle.amending.proofs.Split.{Split, nowhere, here, later, split, joined, heads}
 use Rattle.amending.proofs.Front.{Front, none-old, old-end, beyond, kept, front-is, front-joined}
-use Rattle.amending.proofs.Steps.{Reaches, there, last-step, full-step, reaches, reaches-up, ascends}
+use Rattle.amending.proofs.Steps.{Reaches, last-step, full-step, reaches, reaches-up, ascends}
 use Rattle.amending.proofs.Meets.{placed}
 
 pub each-so : {P Q : ℕ → Type 0} {l : List ℕ} → ((x : ℕ) → P x → Q x) → Each P l → Each Q l

@@ -4,7 +4,6 @@ use mathlib.Core.Path.{_≡_, refl, sym, ap, ap₂, _∙_, subst, subst₃}
 use mathlib.Core.Bool.{Bool, true, false}
 use mathlib.Core.List.{List, [], _∷_, _++_, map, append-assoc}
 use native.Mathlib.Omega.{arith}
-use lib.Dec.{leb, ltb}
 use lib.ListN.{length, take, drop, length-append, length-drop, length-map, length-take}
 use lib.Seq.{take-all, take-append-le, take-append-add, length-take-le}
 use borrow.Author.Tests.{le-leb, lt-leb, ltb-true, ltb-false}
@@ -12,11 +11,10 @@ use Rattle.laws.specs.Last.{lastOr}
 use Rattle.laws.specs.Over.{over, overFrom}
 use Rattle.laws.proofs.Writing.{length-over, overFrom-over}
 use Rattle.terms.specs.declared.Refusal.the-variants.{ListFull}
-use Rattle.terms.specs.Answers.{unless}
 use Rattle.lists.specs.WellFormed.{wellFormed, lengthOf}
 use Rattle.cutting.specs.WholeLog.{writtenList}
 use Rattle.amending.specs.declared.Amendment.the-variants.{Amended, Refused}
-use Rattle.amending.specs.Parts.{frontCount, front, pastFront, restart, before, since, meets, moved, backFrom, recut, back, amendedList}
+use Rattle.amending.specs.Parts.{frontCount, front, pastFront, restart, before, meets, moved, recut, back, amendedList}
 use Rattle.amending.specs.Told.{Each, none, and-each}
 use Rattle.amending.specs.Answers.{editFits, partsAnswer}
 use Rattle.amending.specs.Inner.{Ascends, Movable, Recutted}

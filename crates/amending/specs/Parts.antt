@@ -1,6 +1,6 @@
 -- The three parts of an amended list: document 01, "Amending". The edit replaces d bytes at s by e bytes. What the rule makes of
 -- the new log is handed in: newCuts c are the new log's cuts after the cut c.
-use Prim.Native.Nat.{ℕ, zero, suc, _+_, _-_}
+use Prim.Native.Nat.{ℕ, suc, _+_, _-_}
 use mathlib.Core.Bool.{Bool, true, false, _&&_, not}
 use mathlib.Core.List.{List, [], _∷_, _++_, map}
 use lib.Dec.{leb, eqb}

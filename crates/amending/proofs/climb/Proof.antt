@@ -1,5 +1,5 @@
 -- `amending::climb` meets its contract. The invariant: what is passed and what is left to pass make up the answer.
-use mathlib.Core.Path.{_≡_, refl, sym, ap, _∙_}
+use mathlib.Core.Path.{_≡_, refl}
 use Prim.Native.Nat.{_+_, _-_, _≤_}
 use lib.Dec.{leb}
 use lib.ListN.{length, drop}

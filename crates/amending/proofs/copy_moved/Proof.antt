@@ -1,6 +1,5 @@
 -- `amending::copy_moved` meets its contract. The invariant: the entries passed are written, and there was room for them.
 use Prim.Native.Nat.{_-_}
-use native.Mathlib.Omega.{arith}
 use borrow.Author.Needs.{needs}
 use Rattle.amending.proofs.Copying.{Copied, copied-none, same-room, room-left, movable-at, copied-more, copied-full, copied-all}
 use Rattle.amending.proofs.copy_moved.Statement.{statement}

@@ -1,5 +1,5 @@
 -- `amending::front_count` meets its contract. The invariant: the cuts kept so far and those still to be kept are the front.
-use mathlib.Core.Path.{_≡_, refl, sym, ap, _∙_}
+use mathlib.Core.Path.{_≡_, sym}
 use Prim.Native.Nat.{_+_, _-_, _≤_}
 use native.Mathlib.Nat.{zero-add}
 use lib.ListN.{length, drop}

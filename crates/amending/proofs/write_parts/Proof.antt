@@ -1,6 +1,6 @@
 -- `amending::write_parts` meets its contract: proofs/Written.antt says what each step leaves.
 use mathlib.Core.Path.{_≡_}
-use mathlib.Core.Bool.{true, false}
+use mathlib.Core.Bool.{false}
 use Prim.Native.Nat.{_-_}
 use native.Mathlib.Omega.{arith}
 use lib.ListN.{length}
