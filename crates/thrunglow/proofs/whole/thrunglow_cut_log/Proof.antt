@@ -1,8 +1,8 @@
 use borrow.Author.Needs.{needs}
 use mathlib.Core.Path.{ap, _∙_}
 use Rattle.thrunglow.specs.Outcomes.{outcomeOf}
-use Rattle.thrunglow.proofs.thrunglow_cut_log.Statement.{statement}
-use Rattle.thrunglow.proofs.thrunglow_cut_log.Tie as tie
+use Rattle.thrunglow.proofs.whole.thrunglow_cut_log.Statement.{statement}
+use Rattle.thrunglow.proofs.whole.thrunglow_cut_log.Tie as tie
 
 cut-log-requires : tie.Need-cut-log-requires
 cut-log-requires c κs = search needs

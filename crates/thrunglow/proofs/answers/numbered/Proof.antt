@@ -1,11 +1,11 @@
 use Prim.Native.Nat.{ℕ}
-use Rattle.thrunglow.specs.declared.Outcome.{Outcome}
+use Rattle.thrunglow.specs.declared.answers.Outcome.{Outcome}
 use borrow.Author.Needs.{needs}
 use mathlib.Core.Path.{sym, ap, _∙_}
 use Rattle.terms.specs.Answers.{answerNumber, answerCount}
 use Rattle.thrunglow.specs.Outcomes.{outcomeOf}
-use Rattle.thrunglow.proofs.numbered.Statement.{statement}
-use Rattle.thrunglow.proofs.numbered.Tie as tie
+use Rattle.thrunglow.proofs.answers.numbered.Statement.{statement}
+use Rattle.thrunglow.proofs.answers.numbered.Tie as tie
 
 abbrev refusedBy : ℕ → Outcome
 refusedBy number = record { number = number; count = 0 }

@@ -1,0 +1,47 @@
+-- The starred figures of document 01 as one table.
+use Prim.Native.Nat.{ℕ, _^_}
+use mathlib.Core.Path.{_≡_}
+use mathlib.Core.List.{List, [], _∷_, _++_}
+use lib.ListN.{replicate}
+use Rattle.terms.specs.declared.Settings.{Settings}
+use Rattle.signature.specs.Polynomials.{rem}
+use Rattle.signature.specs.Signatures.{degree, lowPart}
+use Rattle.cutting.specs.Marks.{cutList}
+
+-- log A: 60 bytes, all 0 but byte 47, which is 1; K 8
+unfoldable pub logA : List ℕ
+logA = replicate 47 0 ++ (1 ∷ replicate 12 0)
+
+-- log C: 400 bytes, 1 at 99, 199, 299, else 0; K 31, target 1
+unfoldable pub logC : List ℕ
+logC = replicate 99 0 ++ (1 ∷ (replicate 99 0 ++ (1 ∷ (replicate 99 0 ++ (1 ∷ replicate 100 0)))))
+
+abbrev pub forA : (target minimum maximum : ℕ) → Settings
+forA target minimum maximum = record { bits = 8; target = target; minimum = minimum; maximum = maximum }
+
+abbrev pub forC : (minimum maximum : ℕ) → Settings
+forC minimum maximum = record { bits = 31; target = 1; minimum = minimum; maximum = maximum }
+
+-- a power of x reduced is a number; a log cut with settings gives a list
+pub data Figure : Type 0 where
+  power : (k value : ℕ) → Figure
+  cuts : (settings : Settings) (log list : List ℕ) → Figure
+
+unfoldable pub Holds : Figure → Type 0
+Holds (power k value) = rem degree lowPart (2 ^ k) ≡ value
+Holds (cuts settings log list) = cutList settings log ≡ list
+
+unfoldable pub starred : List Figure
+starred =
+    power 384 17_961_248
+    ∷ power 64 260
+    ∷ cuts (forA 1 48 96) logA (48 ∷ 60 ∷ [])
+    ∷ cuts (forA 18 48 96) logA (52 ∷ 60 ∷ [])
+    ∷ cuts (forA 18 53 96) logA (59 ∷ 60 ∷ [])
+    ∷ cuts (forA 18 48 51) logA (51 ∷ 60 ∷ [])
+    ∷ cuts (forA 1 48 96) [] []
+    ∷ cuts (forA 1 48 96) (0 ∷ []) (1 ∷ [])
+    ∷ cuts (forC 48 200) logC (100 ∷ 200 ∷ 300 ∷ 400 ∷ [])
+    ∷ cuts (forC 101 202) logC (200 ∷ 400 ∷ [])
+    ∷ cuts (forC 48 99) logC (99 ∷ 198 ∷ 297 ∷ 396 ∷ 400 ∷ [])
+    ∷ []

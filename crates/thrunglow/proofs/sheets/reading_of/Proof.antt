@@ -1,0 +1,36 @@
+-- `thrunglow::sheets::reading_of` meets its contract: each arm knows its variant.
+use Prim.Native.Nat.{ℕ}
+use mathlib.Core.Path.{sym, ap, _∙_}
+use Rattle.thrunglow.specs.declared.sheets.Reading.{Reading}
+use Rattle.thrunglow.specs.Sheets.{readingOf}
+use borrow.Author.Needs.{needs}
+use Rattle.thrunglow.proofs.sheets.reading_of.Statement.{statement}
+use Rattle.thrunglow.proofs.sheets.reading_of.Tie as tie
+
+abbrev refusedBy : ℕ → Reading
+refusedBy number =
+    record {
+      number = number;
+      label = 0;
+      settings = record { bits = 0; target = 0; minimum = 0; maximum = 0 };
+      count = 0;
+    }
+
+enum-known-sheet : tie.Need-enum-known-sheet
+enum-known-sheet c = search needs
+
+enum-known-sheet-2 : tie.Need-enum-known-sheet-2
+enum-known-sheet-2 c = search needs
+
+number-requires : tie.Need-number-requires
+number-requires c κs = search needs
+
+returns : tie.Need-returns
+returns c = sym (ap readingOf (c .before .sheet .given .1))
+
+returns-2 : tie.Need-returns-2
+returns-2 c = ap refusedBy (c .number .ensures) ∙ sym (ap readingOf (c .before .before .sheet2 .given .1))
+
+pub reading-of-spec : {M : Type 1} → statement M
+reading-of-spec =
+    tie.close (tie.spec enum-known-sheet enum-known-sheet-2 number-requires returns returns-2)

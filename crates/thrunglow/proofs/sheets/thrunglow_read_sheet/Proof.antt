@@ -1,0 +1,35 @@
+-- `thrunglow::sheets::thrunglow_read_sheet` meets its contract: it hands on what `read_sheet` answers.
+use mathlib.Core.Path.{ap, _∙_}
+use denote.Ref.{now}
+use lib.ListN.{length}
+use Rattle.sheet.specs.Read.{readAnswer, listAfter}
+use Rattle.thrunglow.specs.Sheets.{readingOf}
+use borrow.Author.Needs.{needs}
+use Rattle.thrunglow.proofs.sheets.thrunglow_read_sheet.Statement.{statement}
+use Rattle.thrunglow.proofs.sheets.thrunglow_read_sheet.Tie as tie
+
+label-of-requires : tie.Need-label-of-requires
+label-of-requires c κs = search needs
+
+read-sheet-requires : tie.Need-read-sheet-requires
+read-sheet-requires c κs = search needs
+
+reading-of-requires : tie.Need-reading-of-requires
+reading-of-requires c κs = search needs
+
+same-length : tie.Need-same-length
+same-length c = search needs
+
+returns : tie.Need-returns
+returns c =
+    let read = c .before .before .before .read-sheet .ensures in
+    let a = c .before .before .before .before .before .before .before .before .args in
+    let asked = c .before .before .before .before .before .label-of .ensures in (
+      c .reading-of .ensures ∙ ap readingOf (read .0 ∙ ap (λ label. readAnswer (now (a .bytes)) label (length (now (a .list)))) asked),
+      read .1 ∙ ap (λ label. listAfter (now (a .bytes)) label (now (a .list))) asked,
+    )
+
+pub thrunglow-read-sheet-spec : {M : Type 1} → statement M
+thrunglow-read-sheet-spec =
+    tie.close
+    (tie.spec label-of-requires read-sheet-requires reading-of-requires same-length returns)
