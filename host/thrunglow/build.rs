@@ -13,6 +13,7 @@ fn main() {
     println!("cargo:rerun-if-changed={}", archive.display());
     println!("cargo:rustc-link-search=native={}", folder.display());
     println!("cargo:rustc-link-lib=static=thrunglow");
+    println!("cargo:rustc-env=THRUNGLOW_ARCHIVE={}", archive.display());
 }
 
 /// The repository's archive, as new as the code.

@@ -118,7 +118,7 @@ pub fn room(settings: &Settings, bytes: u64) -> usize {
 /// Memory to lend of about that room: mostly enough, with anything in it.
 pub fn list(noise: &mut Noise, room: usize) -> Vec<u64> {
     let any = noise.below(room as u64 + 1) as usize;
-    let entries = noise.pick(&[room, room, room + 1, room + 7, room - 1, any, 0]);
+    let entries = noise.pick(&[room, room, room, room, room, room, room + 1, room + 7, room - 1, any]);
     (0..entries).map(|_| noise.number()).collect()
 }
 

@@ -4,21 +4,26 @@ use crate::{compare, inputs};
 use noise::Noise;
 use thrunglow::{Carry, Settings};
 
-/// A trial, by the name of its call.
-pub type Round = (&'static str, fn(&mut Noise));
+/// A call's trial, which gives the number answered, and the numbers that the call can answer on a log that fits in memory.
+#[derive(Clone, Copy)]
+pub struct Round {
+    pub call: &'static str,
+    pub trial: fn(&mut Noise) -> u32,
+    pub numbers: &'static [usize],
+}
 
 /// Every trial.
 pub const ALL: [Round; 10] = [
-    ("fresh", fresh),
-    ("block", block),
-    ("close", close),
-    ("cut_log", cut_log),
-    ("segment", segment),
-    ("record", record),
-    ("merge", merge),
-    ("amend", amend),
-    ("write_sheet", write_sheet),
-    ("read_sheet", read_sheet),
+    Round { call: "fresh", trial: fresh, numbers: &[0, 1] },
+    Round { call: "block", trial: block, numbers: &[0, 1, 2, 3, 4, 5] },
+    Round { call: "close", trial: close, numbers: &[0, 1, 3, 4, 5] },
+    Round { call: "cut_log", trial: cut_log, numbers: &[0, 1, 5] },
+    Round { call: "segment", trial: segment, numbers: &[0, 1, 6, 7] },
+    Round { call: "record", trial: record, numbers: &[0, 1, 6, 7] },
+    Round { call: "merge", trial: merge, numbers: &[0, 1, 2, 5, 7, 8, 9] },
+    Round { call: "amend", trial: amend, numbers: &[0, 1, 5, 10, 11] },
+    Round { call: "write_sheet", trial: write_sheet, numbers: &[0, 1, 5, 10] },
+    Round { call: "read_sheet", trial: read_sheet, numbers: &[0, 5, 10, 12, 13, 14, 15] },
 ];
 
 /// Says which round failed, so that it can be run alone.
@@ -35,17 +40,19 @@ impl Drop for Telling {
     }
 }
 
-/// Runs the rounds of a call whose seeds are `seed` and the numbers after it.
-pub fn run((call, round): Round, seed: u64, rounds: u64) {
+/// Runs the rounds of a call whose seeds are `seed` and the numbers after it, and counts how often each number was answered.
+pub fn run(round: &Round, seed: u64, rounds: u64) -> [u64; 18] {
+    let mut answered = [0; 18];
     for seed in seed..seed + rounds {
-        let _telling = Telling { call, seed };
-        round(&mut Noise::new(seed));
+        let _telling = Telling { call: round.call, seed };
+        answered[(round.trial)(&mut Noise::new(seed)) as usize] += 1;
     }
+    answered
 }
 
-fn fresh(noise: &mut Noise) {
+fn fresh(noise: &mut Noise) -> u32 {
     let settings = noise.pick(&[inputs::settings, inputs::wide_settings, inputs::wrong_settings])(noise);
-    compare::fresh(settings);
+    compare::fresh(settings).number
 }
 
 /// A carry that a log leads to, or any in order, or one altered.
@@ -65,26 +72,26 @@ fn any_carry(noise: &mut Noise) -> Carry {
     carry
 }
 
-fn block(noise: &mut Noise) {
+fn block(noise: &mut Noise) -> u32 {
     let carry = any_carry(noise);
     let mut bytes = inputs::log(noise, &carry.settings, 64);
     if noise.once_in(2) {
         bytes.truncate(noise.below(100) as usize);
     }
     let room = inputs::room(&carry.settings, bytes.len() as u64);
-    compare::block(carry, &bytes, &inputs::list(noise, room));
+    compare::block(carry, &bytes, &inputs::list(noise, room)).0.number
 }
 
-fn close(noise: &mut Noise) {
+fn close(noise: &mut Noise) -> u32 {
     let carry = any_carry(noise);
-    compare::close(carry, &inputs::list(noise, 1));
+    compare::close(carry, &inputs::list(noise, 1)).0.number
 }
 
-fn cut_log(noise: &mut Noise) {
+fn cut_log(noise: &mut Noise) -> u32 {
     let settings = inputs::settings(noise);
     let log = inputs::log(noise, &settings, 64);
     let room = inputs::room(&settings, log.len() as u64);
-    compare::cut_log(settings, &log, &inputs::list(noise, room));
+    compare::cut_log(settings, &log, &inputs::list(noise, room)).0.number
 }
 
 /// Settings, a log, a segment size and a segment of it, now and then one that is not there.
@@ -106,23 +113,23 @@ fn bay_room(noise: &mut Noise) -> u64 {
     noise.pick(&[702, 702, any, short])
 }
 
-fn segment(noise: &mut Noise) {
+fn segment(noise: &mut Noise) -> u32 {
     let (settings, log, size, index) = any_segment(noise);
     let room = bay_room(noise);
     let entries = (log.len() as u64).div_ceil(size.max(64)) * room;
     let entries = noise.pick(&[entries, entries, entries + 1, entries.saturating_sub(1), 0]);
     let board: Vec<u64> = (0..entries).map(|_| noise.number()).collect();
     let room = if noise.once_in(20) { noise.pick(&inputs::EXTREMES) } else { room };
-    compare::segment(settings, &log, size, room, index, &board);
+    compare::segment(settings, &log, size, room, index, &board).0.number
 }
 
-fn record(noise: &mut Noise) {
+fn record(noise: &mut Noise) -> u32 {
     let (settings, log, size, index) = any_segment(noise);
     let bay: Vec<u64> = (0..bay_room(noise)).map(|_| noise.number()).collect();
-    compare::record(settings, &log, size, index, &bay);
+    compare::record(settings, &log, size, index, &bay).0.number
 }
 
-fn merge(noise: &mut Noise) {
+fn merge(noise: &mut Noise) -> u32 {
     let mut settings = inputs::tight_settings(noise);
     let mut size = noise.between(64, 700);
     let mut n = inputs::length(noise, &settings, size) as u64;
@@ -150,7 +157,7 @@ fn merge(noise: &mut Noise) {
         _ => {}
     }
     let needed = inputs::room(&settings, n).min(10_000);
-    compare::merge(settings, n, size, room, &board, &inputs::list(noise, needed));
+    compare::merge(settings, n, size, room, &board, &inputs::list(noise, needed)).0.number
 }
 
 /// An edit of a log: where, what is removed and what is added, and the log that comes of it.
@@ -173,7 +180,7 @@ fn any_edit(noise: &mut Noise, log: &[u8], list: &[u64]) -> ([u64; 3], Vec<u8>) 
     ([at, removed, added], edited)
 }
 
-fn amend(noise: &mut Noise) {
+fn amend(noise: &mut Noise) -> u32 {
     let mut settings = inputs::tight_settings(noise);
     let log = inputs::log(noise, &settings, 64);
     let n = log.len() as u64;
@@ -194,7 +201,7 @@ fn amend(noise: &mut Noise) {
         _ => {}
     }
     let room = inputs::room(&settings, edited.len() as u64);
-    compare::amend(settings, &old, edit, &edited, &inputs::list(noise, room));
+    compare::amend(settings, &old, edit, &edited, &inputs::list(noise, room)).0.number
 }
 
 /// Settings and a list that is well formed for them.
@@ -204,7 +211,7 @@ fn any_list(noise: &mut Noise) -> (Settings, Vec<u64>) {
     (settings, inputs::untrue_list(noise, &settings, end))
 }
 
-fn write_sheet(noise: &mut Noise) {
+fn write_sheet(noise: &mut Noise) -> u32 {
     let (mut settings, mut list) = any_list(noise);
     if noise.once_in(4) {
         inputs::damage(noise, &mut list);
@@ -215,10 +222,10 @@ fn write_sheet(noise: &mut Noise) {
     let room = 8 * list.len() + 32;
     let any = noise.below(room as u64) as usize;
     let bytes = noise.pick(&[room, room, room + 1, room + 40, room - 1, any, 0]);
-    compare::write_sheet(settings, noise.once_in(2), &list, &noise.bytes(bytes));
+    compare::write_sheet(settings, noise.once_in(2), &list, &noise.bytes(bytes)).0.number
 }
 
-fn read_sheet(noise: &mut Noise) {
+fn read_sheet(noise: &mut Noise) -> u32 {
     let (settings, mut list) = any_list(noise);
     let live = noise.once_in(2);
     let label = if live { second::Label::Live } else { second::Label::Practice };
@@ -238,5 +245,5 @@ fn read_sheet(noise: &mut Noise) {
     let bytes = [noise.bytes(before as usize), sheet].concat();
     let asked = if noise.once_in(5) { !live } else { live };
     let room = list.len().max(1);
-    compare::read_sheet(&bytes, asked, &inputs::list(noise, room));
+    compare::read_sheet(&bytes, asked, &inputs::list(noise, room)).0.number
 }

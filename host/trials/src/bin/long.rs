@@ -8,12 +8,17 @@ fn main() {
     let mut numbers = std::env::args().skip(1).map(|word| word.parse().expect("a seed and a count of rounds"));
     let seed = numbers.next().unwrap_or(1);
     let count = numbers.next().unwrap_or(100_000);
-    let mut total = 0;
-    for round in rounds::ALL {
+    for round in &rounds::ALL {
         let start = Instant::now();
-        rounds::run(round, seed, count);
-        total += count;
-        println!("{:<12} {count} rounds agree, {:.0} s", round.0, start.elapsed().as_secs_f64());
+        let answered = rounds::run(round, seed, count);
+        let seconds = start.elapsed().as_secs_f64();
+        println!("{:<12} {count} rounds agree, {seconds:.0} s: {}", round.call, tally(&answered));
     }
-    println!("{total} rounds from seed {seed} agree");
+    println!("{} rounds from seed {seed} agree", count * rounds::ALL.len() as u64);
+}
+
+/// How often each number was answered.
+fn tally(answered: &[u64; 18]) -> String {
+    let some = answered.iter().enumerate().filter(|(_, times)| **times > 0);
+    some.map(|(number, times)| format!("number {number} {times} times")).collect::<Vec<_>>().join(", ")
 }
