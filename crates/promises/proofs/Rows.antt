@@ -1,18 +1,26 @@
 -- `rows`: each call answers the number of the first row of its table that holds, and succeeds, with 0, where none does.
-use Prim.Native.Nat.{ℕ}
+use Prim.Native.Nat.{ℕ, _+_, _-_, _*_}
 use mathlib.Core.Path.{_≡_, refl, _∙_}
 use mathlib.Core.Bool.{Bool, true, false, not}
 use mathlib.Core.List.{List}
-use lib.Dec.{leb, ltb}
+use lib.Dec.{leb, ltb, eqb}
 use lib.ListN.{length}
 use borrow.Author.Tests.{lt-leb, le-leb, lt-ltb, le-ltb}
 use Rattle.laws.proofs.Cases.{by-lt}
 use Rattle.terms.specs.declared.Settings.{Settings}
+use Rattle.terms.specs.declared.Label.{Label}
+use Rattle.terms.specs.Labels.{byteOf}
 use Rattle.terms.specs.Settings.{inRange}
 use Rattle.terms.specs.Answers.{answerNumber, unless, longest, roomFor}
 use Rattle.cutting.specs.Marks.{cutList}
 use Rattle.cutting.specs.WholeLog.{cutLogAnswer, writtenAnswer}
-use Rattle.promises.specs.Rows.{whether, firstRow, wholeLogRows}
+use Rattle.lists.specs.WellFormed.{wellFormed}
+use Rattle.sheet.specs.Trailer.{mostCuts, trailerRight}
+use Rattle.sheet.specs.Sheets.{checked}
+use Rattle.sheet.specs.Write.{writeAnswer}
+use Rattle.sheet.specs.Read.{hasTrailer, hasList, trailerOf, sheetIn, readAnswer}
+use Rattle.sheet.specs.Answers.{sheetNumber}
+use Rattle.promises.specs.Rows.{whether, firstRow, wholeLogRows, writeSheetRows, readSheetRows}
 
 -- the row that a test guards holds where the test fails
 guarded : {A : Type 0} (number : A → ℕ) {refused answer : A} {k later : ℕ} (passes holds : Bool) → holds ≡ not passes
@@ -37,3 +45,21 @@ whole-log-rows s log room =
     (unless-at-most answerNumber (length log) longest refl
     (unless-at-most answerNumber (roomFor (s .minimum) (length log)) room refl
     (unless-at-most answerNumber (length (cutList s log)) room refl refl)))
+
+pub write-sheet-rows : (s : Settings) (list : List ℕ) (room : ℕ) → answerNumber (writeAnswer s list room) ≡ firstRow (writeSheetRows s list room)
+unfolding answerNumber writeAnswer writeSheetRows firstRow
+write-sheet-rows s list room =
+    unless-not answerNumber (inRange s) refl
+    (unless-not answerNumber (wellFormed (s .minimum) (s .maximum) list) refl
+    (unless-at-most answerNumber (length list) mostCuts refl
+    (unless-at-most answerNumber (8 * length list + 32) room refl refl)))
+
+pub read-sheet-rows : (bytes : List ℕ) (asked : Label) (room : ℕ) → sheetNumber (readAnswer bytes asked room) ≡ firstRow (readSheetRows bytes asked room)
+unfolding sheetNumber readAnswer readSheetRows firstRow
+read-sheet-rows bytes asked room =
+    unless-not sheetNumber (hasTrailer bytes) refl
+    (unless-not sheetNumber (trailerRight (length bytes - 32) (trailerOf bytes)) refl
+    (unless-not sheetNumber (checked (sheetIn bytes)) refl
+    (unless-not sheetNumber (hasList bytes) refl
+    (unless-not sheetNumber (eqb (trailerOf bytes .label) (byteOf asked)) refl
+    (unless-at-most sheetNumber (trailerOf bytes .count) room refl refl)))))

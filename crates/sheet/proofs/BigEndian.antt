@@ -7,13 +7,13 @@ use native.Mathlib.Numerals.{add-one}
 use native.Mathlib.Nat.{add-assoc, add-comm, mul-suc, mul-zero, mul-assoc, mul-comm, add-mul, mod-one, min-le-left, lt-of-lt-of-le, mul-le-mul-left, le-of-suc-le-suc}
 use lib.Pow.{pow-add, pow-mono, mod-pow-add}
 use lib.ListN.{length, take, drop, getD, set, length-append, length-take, length-drop, List·getD-eq-default}
-use lib.Seq.{take-suc, length-take-le, getD-take, getD-drop, drop-drop}
+use lib.Seq.{take-append-le, drop-append-le, take-suc, length-take-le, getD-take, getD-drop, drop-drop}
 use lib.Arith.{digits-lt}
 use lib.Dec.{lit<}
 use Rattle.laws.proofs.Cases.{by-lt}
 use Rattle.laws.proofs.Writing.{over-more, overFrom-next, overFrom-join}
 use Rattle.laws.specs.Over.{over, overFrom}
-use Rattle.sheet.specs.Numbers.{bigEndian, number, written, numbers, numbersOf, numberAt}
+use Rattle.sheet.specs.Numbers.{bigEndian, number, written, numbers, numberAt}
 
 -- a byte more is 256 times as many
 pub pow-byte : (k : ℕ) → 2 ^ (8 * suc k) ≡ 2 ^ (8 * k) * 256
@@ -155,3 +155,14 @@ getD-numbers width zero i bytes h = absurd (omega arith)
 getD-numbers width (suc count) zero bytes h = rw mul-zero
 getD-numbers width (suc count) (suc i) bytes h =
     getD-numbers width count i (drop width bytes) (le-of-suc-le-suc h) ∙ rw (drop-drop, mul-suc, add-comm width (width * i))
+
+-- the first numbers stand in the first bytes
+pub numbers-front : (width count : ℕ) (front rest : List ℕ) → width * count ≤ length front → numbers width count (front ++ rest) ≡ numbers width count front
+unfolding numbers
+numbers-front width zero front rest h = refl
+numbers-front width (suc count) front rest h =
+    let h′ : width * count + width ≤ length front = rw mul-suc at h in
+    let within : width ≤ length front = omega arith in
+    let left : width * count ≤ length (drop width front) = rw length-drop (omega arith) in
+    rw (take-append-le width front rest within, drop-append-le width front rest within)
+    (ap (λ (r : List ℕ). number (take width front) ∷ r) (numbers-front width count (drop width front) rest left))

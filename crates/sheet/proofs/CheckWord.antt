@@ -1,16 +1,18 @@
 -- The check word by wrapping sums.
-use mathlib.Core.Path.{_≡_, refl, sym, ap, _∙_}
+use mathlib.Core.Path.{_≡_, sym, _∙_}
 use mathlib.Core.List.{List, [], _∷_, _++_}
-use Prim.Native.Nat.{ℕ, zero, suc, _+_, _-_, _*_, _/_, _%_, _^_, _≤_, _<_}
+use Prim.Native.Nat.{ℕ, suc, _+_, _-_, _*_, _/_, _%_, _^_, _<_}
 use native.Mathlib.Omega.{arith}
 use native.Mathlib.Numerals.{add-one}
-use native.Mathlib.Nat.{add-zero, add-assoc, mod-add-mod}
+use native.Mathlib.Nat.{add-zero, add-assoc, mod-add-mod, mul-div-cancel-left, le-of-eq}
 use mathlib.Core.Bool.{true, false}
-use borrow.Author.Tests.{eq-eqb, ne-eqb}
-use lib.ListN.{length, take}
+use borrow.Author.Tests.{eq-eqb, ne-eqb, eqb-true}
+use lib.Dec.{lit<}
+use lib.ListN.{length, take, drop, take-append-drop}
+use lib.Seq.{length-take-le}
 use Rattle.sheet.specs.Numbers.{numbers, numbersOf, numberAt}
 use Rattle.sheet.specs.Sheets.{total, checkWord, checked}
-use Rattle.sheet.proofs.BigEndian.{numbers-more}
+use Rattle.sheet.proofs.BigEndian.{numbers-more, numbers-front}
 
 pub total-append : (l m : List ℕ) → total (l ++ m) ≡ total l + total m
 unfolding total
@@ -27,6 +29,10 @@ pub check-is : (r : ℕ) (words : List ℕ) → r < 2 ^ 32 → (r + total words 
 unfolding checkWord
 check-is r words h e = omega arith
 
+pub checkWord-lt : (words : List ℕ) → checkWord words < 2 ^ 32
+unfolding checkWord
+checkWord-lt words = omega arith
+
 -- the last word found is compared with the right one
 module _ (sheet : List ℕ) {found right : ℕ}
     (is-found : found ≡ numberAt (length sheet - 4) 4 sheet) (is-right : right ≡ checkWord (numbersOf 4 (take (length sheet - 4) sheet))) where
@@ -37,3 +43,20 @@ module _ (sheet : List ℕ) {found right : ℕ}
   pub checked-false : (found ≡ right → ⊥) → checked sheet ≡ false
   unfolding checked
   checked-false ne = ne-eqb _ _ (λ e. ne (is-found ∙ e ∙ sym is-right))
+
+zero-sum : (words : List ℕ) → (total words + total (checkWord words ∷ [])) % 2 ^ 32 ≡ 0
+unfolding total checkWord
+zero-sum words = omega arith
+
+-- the words of a checked sheet add to zero modulo 2^32
+pub checked-adds : (sheet : List ℕ) (k : ℕ) → length sheet ≡ 4 * suc k → checked sheet ≡ true → total (numbersOf 4 sheet) % 2 ^ 32 ≡ 0
+unfolding checked numbersOf
+checked-adds sheet k e ok =
+    let place : length sheet - 4 ≡ 4 * k = omega arith in
+    let front = take (4 * k) sheet in
+    let size : length front ≡ 4 * k = length-take-le (4 * k) sheet (omega arith) in
+    let words : numbers 4 (length front / 4) front ≡ numbers 4 k sheet =
+    rw (size, mul-div-cancel-left k {n = 4} (lit< tt)) (sym (rw (take-append-drop (4 * k) sheet) at (numbers-front 4 k front (drop (4 * k) sheet) (le-of-eq (sym size))))) in
+    let right : numberAt (length sheet - 4) 4 sheet ≡ checkWord (numbersOf 4 (take (length sheet - 4) sheet)) = eqb-true _ _ ok in
+    let last : numberAt (4 * k) 4 sheet ≡ checkWord (numbers 4 k sheet) = rw words at (rw place at right) in
+    rw (e, mul-div-cancel-left (suc k) {n = 4} (lit< tt), numbers-more 4 k sheet, total-append, last) (zero-sum (numbers 4 k sheet))

@@ -4,3 +4,7 @@ pub mod Same
 pub mod Offsets
 pub mod Parts
 pub mod Reading
+pub mod Back
+pub mod RoundTrip
+pub mod Promised
+pub mod Damage

@@ -1,6 +1,6 @@
 -- Reading a sheet: the parts that code lends are those of the definition, a right trailer's facts by name, and what an answer leaves.
-use mathlib.Core.Path.{_≡_, refl, sym, ap, _∙_}
-use mathlib.Core.Bool.{Bool, true, false, _&&_}
+use mathlib.Core.Path.{_≡_, sym, _∙_}
+use mathlib.Core.Bool.{Bool, true, false}
 use mathlib.Core.List.{List}
 use Prim.Native.Nat.{ℕ, _-_, _*_, _/_, _≤_, _<_}
 use native.Mathlib.Nat.{le-refl}
@@ -9,17 +9,20 @@ use lib.Dec.{leb, eqb}
 use lib.ListN.{length, take, drop, length-drop}
 use lib.Seq.{take-all, length-take-le}
 use borrow.Author.Tests.{eq-eqb, ne-eqb, le-leb, lt-leb, leb-true, eqb-true}
-use Rattle.laws.proofs.Cases.{both-true}
+use Rattle.laws.proofs.Cases.{both-true, by-test}
 use Rattle.laws.specs.Over.{over}
 use Rattle.terms.specs.declared.Label.{Label}
 use Rattle.terms.specs.declared.Refusal.{Refusal}
+use Rattle.terms.specs.declared.Refusal.the-variants.{NoSheet, TrailerWrong, CheckWordWrong, ListNotWellFormed, OtherLabel, RoomTooShort}
+use Rattle.terms.specs.Answers.{unless}
 use Rattle.terms.specs.Labels.{byteOf}
 use Rattle.terms.specs.Settings.{inRange}
 use Rattle.sheet.specs.declared.trailer.Trailer.{Trailer}
 use Rattle.sheet.specs.declared.Sheet.the-variants.{Read, Refused}
 use Rattle.sheet.specs.Numbers.{numbersOf}
 use Rattle.sheet.specs.Trailer.{mark, mostCuts, isLabel, trailerIn, trailerRight}
-use Rattle.sheet.specs.Read.{same, trailerBytes, trailerOf, sheetIn, listIn, readAnswer, listAfter}
+use Rattle.sheet.specs.Sheets.{checked}
+use Rattle.sheet.specs.Read.{same, trailerBytes, trailerOf, sheetIn, listIn, hasTrailer, hasList, readAnswer, listAfter}
 
 pub record Right (before : ℕ) (t : Trailer) : Type 0 where
   pub label : isLabel (t .label) ≡ true
@@ -59,7 +62,8 @@ module _ (bytes : List ℕ) where
   trailer-lent = lent-is (length bytes - 32) bytes
 
   pub is-present : {r : Bool} → 32 ≤ length bytes → r ≡ same mark (take 4 (lent (length bytes - 32) bytes))
-      → r ≡ (leb 32 (length bytes) && same mark (take 4 (trailerBytes bytes)))
+      → r ≡ hasTrailer bytes
+  unfolding hasTrailer
   is-present h e = rw (le-leb 32 (length bytes) h) (e ∙ rw trailer-lent)
 
   pub is-trailer : {t : Trailer} → t ≡ trailerIn (lent (length bytes - 32) bytes) → t ≡ trailerOf bytes
@@ -110,3 +114,44 @@ module _ (bytes : List ℕ) where
         → (Read (t .label) (t .settings) (t .count) ≡ readAnswer bytes asked (length list)) × (after ≡ listAfter bytes asked list)
     unfolding listAfter
     was-read e f g = (rw (e, f), rw (f, listAfter) g)
+
+-- every row's test passed
+pub record Accepts (bytes : List ℕ) (asked : Label) (room : ℕ) : Type 0 where
+  pub present : hasTrailer bytes ≡ true
+  pub right : trailerRight (length bytes - 32) (trailerOf bytes) ≡ true
+  pub sound : checked (sheetIn bytes) ≡ true
+  pub listed : hasList bytes ≡ true
+  pub labelled : eqb (trailerOf bytes .label) (byteOf asked) ≡ true
+  pub roomy : leb (trailerOf bytes .count) room ≡ true
+
+module _ (bytes : List ℕ) (asked : Label) (room : ℕ) where
+  -- where the first four pass, the label and the room decide
+  pub judged : hasTrailer bytes ≡ true → trailerRight (length bytes - 32) (trailerOf bytes) ≡ true → checked (sheetIn bytes) ≡ true → hasList bytes ≡ true
+      → readAnswer bytes asked room
+      ≡ unless (eqb (trailerOf bytes .label) (byteOf asked)) (Refused OtherLabel)
+      (unless (leb (trailerOf bytes .count) room) (Refused RoomTooShort)
+      (Read (trailerOf bytes .label) (trailerOf bytes .settings) (trailerOf bytes .count)))
+  unfolding readAnswer
+  judged p r s l = simp (p, r, s, l)
+
+  -- what is not refused passed every row
+  pub accepts : ((why : Refusal) → readAnswer bytes asked room ≡ Refused why → ⊥) → Accepts bytes asked room
+  unfolding readAnswer
+  accepts never =
+      by-test (hasTrailer bytes)
+      (λ p. by-test (trailerRight (length bytes - 32) (trailerOf bytes))
+      (λ r. by-test (checked (sheetIn bytes))
+      (λ s. by-test (hasList bytes)
+      (λ l. by-test (eqb (trailerOf bytes .label) (byteOf asked))
+      (λ a. by-test (leb (trailerOf bytes .count) room)
+      (λ m. record { present = p; right = r; sound = s; listed = l; labelled = a; roomy = m })
+      (λ m. absurd (never RoomTooShort (simp (p, r, s, l, a, m)))))
+      (λ a. absurd (never OtherLabel (simp (p, r, s, l, a)))))
+      (λ l. absurd (never ListNotWellFormed (simp (p, r, s, l)))))
+      (λ s. absurd (never CheckWordWrong (simp (p, r, s)))))
+      (λ r. absurd (never TrailerWrong (simp (p, r)))))
+      (λ p. absurd (never NoSheet (simp p)))
+
+  -- what is read is the trailer's
+  pub read-is : Accepts bytes asked room → readAnswer bytes asked room ≡ Read (trailerOf bytes .label) (trailerOf bytes .settings) (trailerOf bytes .count)
+  read-is a = judged (a .present) (a .right) (a .sound) (a .listed) ∙ simp (a .labelled, a .roomy)

@@ -38,14 +38,24 @@ sheetIn bytes = drop (length bytes - 32 - trailerOf bytes .distance) bytes
 unfoldable pub listIn : List ℕ → List ℕ
 listIn bytes = numbersOf 8 (take (trailerOf bytes .distance) (sheetIn bytes))
 
+-- there is a trailer, and it begins with the mark
+unfoldable pub hasTrailer : List ℕ → Bool
+hasTrailer bytes = leb 32 (length bytes) && same mark (take 4 (trailerBytes bytes))
+
+-- the offsets are a well-formed list under the trailer's settings
+unfoldable pub hasList : List ℕ → Bool
+hasList bytes =
+    let settings = trailerOf bytes .settings in
+    wellFormed (settings .minimum) (settings .maximum) (listIn bytes)
+
 -- what reading into a list of room entries answers
 unfoldable pub readAnswer : List ℕ → Label → (room : ℕ) → Sheet
 readAnswer bytes asked room =
     let t = trailerOf bytes in
-    unless (leb 32 (length bytes) && same mark (take 4 (trailerBytes bytes))) (Refused NoSheet)
+    unless (hasTrailer bytes) (Refused NoSheet)
     (unless (trailerRight (length bytes - 32) t) (Refused TrailerWrong)
     (unless (checked (sheetIn bytes)) (Refused CheckWordWrong)
-    (unless (wellFormed (t .settings .minimum) (t .settings .maximum) (listIn bytes)) (Refused ListNotWellFormed)
+    (unless (hasList bytes) (Refused ListNotWellFormed)
     (unless (eqb (t .label) (byteOf asked)) (Refused OtherLabel)
     (unless (leb (t .count) room) (Refused RoomTooShort)
     (Read (t .label) (t .settings) (t .count)))))))

@@ -1,5 +1,5 @@
 -- `sheet::put_sheet` meets its contract: body, fields and check word are written one after the other.
-use mathlib.Core.Path.{_≡_, sym}
+use mathlib.Core.Path.{sym}
 use native.Mathlib.Omega.{arith}
 use borrow.Author.Needs.{needs}
 use lib.Seq.{length-take-le}

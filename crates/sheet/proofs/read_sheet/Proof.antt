@@ -1,24 +1,24 @@
 -- `sheet::read_sheet` meets its contract: at each `return` the tests passed on the way decide the answer, and the answer what the list holds.
 use mathlib.Core.Path.{_≡_, sym, ap, _∙_}
-use mathlib.Core.Bool.{true, false, _&&_}
-use Prim.Native.Nat.{_-_, _*_, _/_, _≤_}
+use Prim.Native.Nat.{ℕ, _-_}
 use lib.Dec.{leb, eqb}
-use lib.ListN.{length, take, length-drop}
-use lib.Seq.{length-take-le}
-use native.Mathlib.Omega.{arith}
+use lib.ListN.{length}
 use borrow.Author.Needs.{needs}
-use borrow.Author.Tests.{eq-eqb, ne-eqb, le-leb, lt-leb}
+use borrow.Author.Tests.{lt-leb}
 use Rattle.laws.proofs.Cases.{test-passed, test-failed}
+use Rattle.terms.specs.declared.Label.{Label}
+use Rattle.terms.specs.declared.Refusal.the-variants.{OtherLabel, RoomTooShort}
+use Rattle.terms.specs.Answers.{unless}
 use Rattle.terms.specs.Labels.{byteOf}
-use Rattle.lists.specs.WellFormed.{wellFormed}
-use Rattle.sheet.specs.Trailer.{mark, trailerRight}
+use Rattle.sheet.specs.declared.Sheet.the-variants.{Read, Refused}
+use Rattle.sheet.specs.Trailer.{trailerRight}
 use Rattle.sheet.specs.Sheets.{checked}
-use Rattle.sheet.specs.Read.{same, trailerBytes, trailerOf, sheetIn, listIn, readAnswer}
-use Rattle.sheet.proofs.Reading.{Right, right-facts, is-present, is-trailer, sheet-lent, list-lent, body-length, body-room, asked-label, other-label, roomy, short, refused, was-read}
+use Rattle.sheet.specs.Read.{trailerOf, sheetIn, hasTrailer, hasList, readAnswer}
+use Rattle.sheet.proofs.Reading.{Right, right-facts, is-present, is-trailer, sheet-lent, list-lent, body-length, body-room, asked-label, other-label, roomy, short, refused, was-read, judged}
 use Rattle.sheet.proofs.read_sheet.Statement.{statement}
 use Rattle.sheet.proofs.read_sheet.Tie as tie
 
-present : (c : tie.After-is-marked) → c .is-marked .result ≡ (leb 32 (length (c .before .before .before .before .before .args .bytes .now)) && same mark (take 4 (trailerBytes (c .before .before .before .before .before .args .bytes .now))))
+present : (c : tie.After-is-marked) → c .is-marked .result ≡ hasTrailer (c .before .before .before .before .before .args .bytes .now)
 present c = is-present (c .before .before .before .before .before .args .bytes .now) (c .before .before .if1 .left) (c .is-marked .ensures)
 
 trailer-is : (c : tie.After-trailer-in) → c .trailer-in .result ≡ trailerOf (c .before .before .before .before .before .before .before .args .bytes .now)
@@ -30,18 +30,30 @@ right c = c .is-right .ensures ∙ ap (trailerRight (length (c .before .before .
 sound : (c : tie.After-is-checked) → c .is-checked .result ≡ checked (sheetIn (c .before .before .before .before .before .before .before .before .before .before .before .args .bytes .now))
 sound c = c .is-checked .ensures ∙ ap checked (sheet-lent (c .before .before .before .before .before .before .before .before .before .before .before .args .bytes .now) (trailer-is (c .before .before .before .before)))
 
-listed : (c : tie.After-is-well-formed)
-    → c .is-well-formed .result
-    ≡ wellFormed (trailerOf (c .before .before .before .before .before .before .before .before .before .before .before .before .before .before .before .args .bytes .now) .settings .minimum) (trailerOf (c .before .before .before .before .before .before .before .before .before .before .before .before .before .before .before .args .bytes .now) .settings .maximum) (listIn (c .before .before .before .before .before .before .before .before .before .before .before .before .before .before .before .args .bytes .now))
+listed : (c : tie.After-is-well-formed) → c .is-well-formed .result ≡ hasList (c .before .before .before .before .before .before .before .before .before .before .before .before .before .before .before .args .bytes .now)
+unfolding hasList
 listed c =
     let same-trailer = trailer-is (c .before .before .before .before .before .before .before .before) in
     c .is-well-formed .ensures ∙ rw (list-lent (c .before .before .before .before .before .before .before .before .before .before .before .before .before .before .before .args .bytes .now) same-trailer, same-trailer)
+
+-- past the list, the label and the room decide
+decided : (c : tie.Else5) (asked : Label) (room : ℕ)
+    → readAnswer (c .before .before .before .before .before .before .before .before .before .before .before .before .before .before .before .before .args .bytes .now) asked room
+    ≡ unless (eqb (trailerOf (c .before .before .before .before .before .before .before .before .before .before .before .before .before .before .before .before .args .bytes .now) .label) (byteOf asked)) (Refused OtherLabel)
+    (unless (leb (trailerOf (c .before .before .before .before .before .before .before .before .before .before .before .before .before .before .before .before .args .bytes .now) .count) room) (Refused RoomTooShort)
+    (Read (trailerOf (c .before .before .before .before .before .before .before .before .before .before .before .before .before .before .before .before .args .bytes .now) .label) (trailerOf (c .before .before .before .before .before .before .before .before .before .before .before .before .before .before .before .before .args .bytes .now) .settings) (trailerOf (c .before .before .before .before .before .before .before .before .before .before .before .before .before .before .before .before .args .bytes .now) .count)))
+decided c asked room =
+    judged (c .before .before .before .before .before .before .before .before .before .before .before .before .before .before .before .before .args .bytes .now) asked room
+    (test-passed (present (c .before .before .before .before .before .before .before .before .before .before .before)) (c .before .before .before .before .before .before .before .before .before .before .if2 .left))
+    (test-passed (right (c .before .before .before .before .before .before .before .before)) (c .before .before .before .before .before .before .before .if3 .left))
+    (test-passed (sound (c .before .before .before .before .before)) (c .before .before .before .before .if4 .left))
+    (test-passed (listed (c .before)) (c .if5 .left))
 
 fits : (c : tie.Else3) → Right (length (c .before .before .before .before .before .before .before .before .before .args .bytes .now) - 32) (c .before .before .trailer-in .result)
 fits c = right-facts _ _ (test-passed (c .before .is-right .ensures) (c .if3 .left))
 
 returns : tie.Need-returns
-unfolding readAnswer
+unfolding readAnswer hasTrailer
 returns c = refused (c .before .before .before .args .bytes .now) (c .before .before .before .args .asked) (c .before .before .before .args .list .now) (simp (lt-leb _ _ (c .if1 .taken)))
 
 sub-at : tie.Need-sub-at
@@ -106,12 +118,10 @@ byte-requires : tie.Need-byte-requires
 byte-requires c κs = search needs
 
 returns-6 : tie.Need-returns-6
-unfolding readAnswer
-returns-6 c = refused (c .before .before .before .before .before .before .before .before .before .before .before .before .before .before .before .before .before .before .args .bytes .now) (c .before .before .before .before .before .before .before .before .before .before .before .before .before .before .before .before .before .before .args .asked) (c .before .before .before .before .before .before .before .before .before .before .before .before .before .before .before .before .before .before .args .list .now) (simp (test-passed (present (c .before .before .before .before .before .before .before .before .before .before .before .before .before)) (c .before .before .before .before .before .before .before .before .before .before .before .before .if2 .left), test-passed (right (c .before .before .before .before .before .before .before .before .before .before)) (c .before .before .before .before .before .before .before .before .before .if3 .left), test-passed (sound (c .before .before .before .before .before .before .before)) (c .before .before .before .before .before .before .if4 .left), test-passed (listed (c .before .before .before)) (c .before .before .if5 .left), other-label (c .before .before .before .before .before .before .before .before .before .before .before .before .before .before .before .before .before .before .args .bytes .now) (trailer-is (c .before .before .before .before .before .before .before .before .before .before .before)) (c .before .before .before .before .before .before .before .before .before .before .before .before .before .before .before .before .before .before .args .asked) (c .before .byte .ensures) (c .if6 .taken)))
+returns-6 c = refused (c .before .before .before .before .before .before .before .before .before .before .before .before .before .before .before .before .before .before .args .bytes .now) (c .before .before .before .before .before .before .before .before .before .before .before .before .before .before .before .before .before .before .args .asked) (c .before .before .before .before .before .before .before .before .before .before .before .before .before .before .before .before .before .before .args .list .now) (decided (c .before .before) (c .before .before .before .before .before .before .before .before .before .before .before .before .before .before .before .before .before .before .args .asked) (length (c .before .before .before .before .before .before .before .before .before .before .before .before .before .before .before .before .before .before .args .list .now)) ∙ simp (other-label (c .before .before .before .before .before .before .before .before .before .before .before .before .before .before .before .before .before .before .args .bytes .now) (trailer-is (c .before .before .before .before .before .before .before .before .before .before .before)) (c .before .before .before .before .before .before .before .before .before .before .before .before .before .before .before .before .before .before .args .asked) (c .before .byte .ensures) (c .if6 .taken)))
 
 returns-7 : tie.Need-returns-7
-unfolding readAnswer
-returns-7 c = refused (c .before .before .before .before .before .before .before .before .before .before .before .before .before .before .before .before .before .before .before .args .bytes .now) (c .before .before .before .before .before .before .before .before .before .before .before .before .before .before .before .before .before .before .before .args .asked) (c .before .before .before .before .before .before .before .before .before .before .before .before .before .before .before .before .before .before .before .args .list .now) (simp (test-passed (present (c .before .before .before .before .before .before .before .before .before .before .before .before .before .before)) (c .before .before .before .before .before .before .before .before .before .before .before .before .before .if2 .left), test-passed (right (c .before .before .before .before .before .before .before .before .before .before .before)) (c .before .before .before .before .before .before .before .before .before .before .if3 .left), test-passed (sound (c .before .before .before .before .before .before .before .before)) (c .before .before .before .before .before .before .before .if4 .left), test-passed (listed (c .before .before .before .before)) (c .before .before .before .if5 .left), asked-label (c .before .before .before .before .before .before .before .before .before .before .before .before .before .before .before .before .before .before .before .args .bytes .now) (trailer-is (c .before .before .before .before .before .before .before .before .before .before .before .before)) (c .before .before .before .before .before .before .before .before .before .before .before .before .before .before .before .before .before .before .before .args .asked) (c .before .before .byte .ensures) (c .before .if6 .left), short (c .before .before .before .before .before .before .before .before .before .before .before .before .before .before .before .before .before .before .before .args .bytes .now) (trailer-is (c .before .before .before .before .before .before .before .before .before .before .before .before)) (c .if7 .taken)))
+returns-7 c = refused (c .before .before .before .before .before .before .before .before .before .before .before .before .before .before .before .before .before .before .before .args .bytes .now) (c .before .before .before .before .before .before .before .before .before .before .before .before .before .before .before .before .before .before .before .args .asked) (c .before .before .before .before .before .before .before .before .before .before .before .before .before .before .before .before .before .before .before .args .list .now) (decided (c .before .before .before) (c .before .before .before .before .before .before .before .before .before .before .before .before .before .before .before .before .before .before .before .args .asked) (length (c .before .before .before .before .before .before .before .before .before .before .before .before .before .before .before .before .before .before .before .args .list .now)) ∙ simp (asked-label (c .before .before .before .before .before .before .before .before .before .before .before .before .before .before .before .before .before .before .before .args .bytes .now) (trailer-is (c .before .before .before .before .before .before .before .before .before .before .before .before)) (c .before .before .before .before .before .before .before .before .before .before .before .before .before .before .before .before .before .before .before .args .asked) (c .before .before .byte .ensures) (c .before .if6 .left), short (c .before .before .before .before .before .before .before .before .before .before .before .before .before .before .before .before .before .before .before .args .bytes .now) (trailer-is (c .before .before .before .before .before .before .before .before .before .before .before .before)) (c .if7 .taken)))
 
 take-offsets-requires : tie.Need-take-offsets-requires
 take-offsets-requires c κs = body-room (c .before .before .before .before .before .before .before .before .before .before .before .before .before .before .before .before .before .before .before .before .args .bytes .now) (fits (c .before .before .before .before .before .before .before .before .before .before .before)) (c .before .if7 .left)
@@ -120,8 +130,7 @@ same-length : tie.Need-same-length
 same-length c = search needs
 
 returns-8 : tie.Need-returns-8
-unfolding readAnswer
-returns-8 c = was-read (c .before .before .before .before .before .before .before .before .before .before .before .before .before .before .before .before .before .before .before .before .before .before .before .args .bytes .now) (c .before .before .before .before .before .before .before .before .before .before .before .before .before .before .before .before .before .before .before .before .before .before .before .args .asked) (c .before .before .before .before .before .before .before .before .before .before .before .before .before .before .before .before .before .before .before .before .before .before .before .args .list .now) (trailer-is (c .before .before .before .before .before .before .before .before .before .before .before .before .before .before .before .before)) (simp (test-passed (present (c .before .before .before .before .before .before .before .before .before .before .before .before .before .before .before .before .before .before)) (c .before .before .before .before .before .before .before .before .before .before .before .before .before .before .before .before .before .if2 .left), test-passed (right (c .before .before .before .before .before .before .before .before .before .before .before .before .before .before .before)) (c .before .before .before .before .before .before .before .before .before .before .before .before .before .before .if3 .left), test-passed (sound (c .before .before .before .before .before .before .before .before .before .before .before .before)) (c .before .before .before .before .before .before .before .before .before .before .before .if4 .left), test-passed (listed (c .before .before .before .before .before .before .before .before)) (c .before .before .before .before .before .before .before .if5 .left), asked-label (c .before .before .before .before .before .before .before .before .before .before .before .before .before .before .before .before .before .before .before .before .before .before .before .args .bytes .now) (trailer-is (c .before .before .before .before .before .before .before .before .before .before .before .before .before .before .before .before)) (c .before .before .before .before .before .before .before .before .before .before .before .before .before .before .before .before .before .before .before .before .before .before .before .args .asked) (c .before .before .before .before .before .before .byte .ensures) (c .before .before .before .before .before .if6 .left), roomy (c .before .before .before .before .before .before .before .before .before .before .before .before .before .before .before .before .before .before .before .before .before .before .before .args .bytes .now) (trailer-is (c .before .before .before .before .before .before .before .before .before .before .before .before .before .before .before .before)) (c .before .before .before .before .if7 .left))) (c .before .before .take-offsets .ensures ∙ rw (list-lent (c .before .before .before .before .before .before .before .before .before .before .before .before .before .before .before .before .before .before .before .before .before .before .before .args .bytes .now) (trailer-is (c .before .before .before .before .before .before .before .before .before .before .before .before .before .before .before .before))))
+returns-8 c = was-read (c .before .before .before .before .before .before .before .before .before .before .before .before .before .before .before .before .before .before .before .before .before .before .before .args .bytes .now) (c .before .before .before .before .before .before .before .before .before .before .before .before .before .before .before .before .before .before .before .before .before .before .before .args .asked) (c .before .before .before .before .before .before .before .before .before .before .before .before .before .before .before .before .before .before .before .before .before .before .before .args .list .now) (trailer-is (c .before .before .before .before .before .before .before .before .before .before .before .before .before .before .before .before)) (decided (c .before .before .before .before .before .before .before) (c .before .before .before .before .before .before .before .before .before .before .before .before .before .before .before .before .before .before .before .before .before .before .before .args .asked) (length (c .before .before .before .before .before .before .before .before .before .before .before .before .before .before .before .before .before .before .before .before .before .before .before .args .list .now)) ∙ simp (asked-label (c .before .before .before .before .before .before .before .before .before .before .before .before .before .before .before .before .before .before .before .before .before .before .before .args .bytes .now) (trailer-is (c .before .before .before .before .before .before .before .before .before .before .before .before .before .before .before .before)) (c .before .before .before .before .before .before .before .before .before .before .before .before .before .before .before .before .before .before .before .before .before .before .before .args .asked) (c .before .before .before .before .before .before .byte .ensures) (c .before .before .before .before .before .if6 .left), roomy (c .before .before .before .before .before .before .before .before .before .before .before .before .before .before .before .before .before .before .before .before .before .before .before .args .bytes .now) (trailer-is (c .before .before .before .before .before .before .before .before .before .before .before .before .before .before .before .before)) (c .before .before .before .before .if7 .left))) (c .before .before .take-offsets .ensures ∙ rw (list-lent (c .before .before .before .before .before .before .before .before .before .before .before .before .before .before .before .before .before .before .before .before .before .before .before .args .bytes .now) (trailer-is (c .before .before .before .before .before .before .before .before .before .before .before .before .before .before .before .before))))
 
 pub read-sheet-spec : {M : Type 1} → statement M
 read-sheet-spec =

@@ -1,8 +1,8 @@
 -- `sheet::write_sheet` meets its contract: at each `return` the tests passed on the way decide the answer, and the answer what the bytes hold.
-use mathlib.Core.Path.{_≡_, sym, ap, _∙_}
+use mathlib.Core.Path.{_≡_, sym}
 use mathlib.Core.Bool.{true, false}
 use mathlib.Core.List.{List}
-use Prim.Native.Nat.{ℕ, _≤_}
+use Prim.Native.Nat.{ℕ}
 use lib.ListN.{length}
 use native.Mathlib.Omega.{arith}
 use borrow.Author.Needs.{needs}
@@ -11,7 +11,6 @@ use Rattle.laws.proofs.Cases.{test-passed, test-failed}
 use Rattle.laws.specs.Over.{over}
 use Rattle.terms.specs.declared.Settings.{Settings}
 use Rattle.terms.specs.declared.Label.{Label}
-use Rattle.terms.specs.declared.Answer.{Answer}
 use Rattle.terms.specs.declared.Answer.the-variants.{Wrote, Refused}
 use Rattle.terms.specs.declared.Refusal.{Refusal}
 use Rattle.terms.specs.Settings.{inRange}

@@ -1,11 +1,11 @@
 -- `sheet::check::check_word` meets its contract. The invariant: the sum so far is that of the first words, modulo 2^32.
-use mathlib.Core.Path.{_≡_, refl, sym, _∙_}
-use Prim.Native.Nat.{_+_, _-_, _*_, _/_, _%_, _^_, _≤_, _<_}
+use mathlib.Core.Path.{_≡_, refl, _∙_}
+use Prim.Native.Nat.{_-_, _/_, _%_, _^_, _≤_, _<_}
 use native.Mathlib.Omega.{arith}
 use borrow.Author.Needs.{needs}
 use lib.ListN.{length}
 use Rattle.sheet.specs.Numbers.{numbers, numbersOf}
-use Rattle.sheet.specs.Sheets.{total, checkWord}
+use Rattle.sheet.specs.Sheets.{total}
 use Rattle.sheet.proofs.CheckWord.{sum-more, check-is}
 use Rattle.sheet.proofs.check.check_word.Statement.{statement}
 use Rattle.sheet.proofs.check.check_word.Tie as tie

@@ -1,5 +1,5 @@
 -- `sheet::check::is_checked` meets its contract: the word found is compared with the check word of what stands before it.
-use mathlib.Core.Path.{_≡_, sym}
+use mathlib.Core.Path.{sym}
 use lib.Seq.{length-take-le}
 use native.Mathlib.Omega.{arith}
 use borrow.Author.Needs.{needs}

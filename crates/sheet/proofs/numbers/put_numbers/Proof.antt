@@ -1,14 +1,14 @@
 -- `sheet::numbers::put_numbers` meets its contract. The invariant: the first numbers are written over what was there.
-use mathlib.Core.Path.{_≡_, refl, sym, ap, _∙_}
-use Prim.Native.Nat.{_+_, _-_, _≤_, _<_}
+use mathlib.Core.Path.{_≡_, refl, sym, _∙_}
+use Prim.Native.Nat.{_+_, _-_, _≤_}
 use native.Mathlib.Omega.{arith}
 use borrow.Author.Needs.{needs}
 use lib.ListN.{length, take}
 use lib.Seq.{take-all}
 use Rattle.laws.specs.Over.{overFrom}
-use Rattle.laws.proofs.Writing.{overFrom-none, overFrom-join, length-overFrom}
-use Rattle.sheet.specs.Numbers.{written, bigEndian}
-use Rattle.sheet.proofs.BigEndian.{written-more, written-room, written-joined, length-written-more}
+use Rattle.laws.proofs.Writing.{overFrom-none}
+use Rattle.sheet.specs.Numbers.{written}
+use Rattle.sheet.proofs.BigEndian.{written-room, written-joined, length-written-more}
 use Rattle.sheet.proofs.numbers.put_numbers.Statement.{statement}
 use Rattle.sheet.proofs.numbers.put_numbers.Tie as tie
 use Rattle.sheet.proofs.numbers.put_numbers.Reads as reads

@@ -2,6 +2,7 @@
 use Prim.Native.Nat.{ℕ}
 use mathlib.Core.Path.{sym, ap, _∙_}
 use Rattle.thrunglow.specs.declared.sheets.Reading.{Reading}
+use Rattle.sheet.specs.Answers.{sheetNumber, sheetLabel, sheetSettings, sheetCount}
 use Rattle.thrunglow.specs.Sheets.{readingOf}
 use borrow.Author.Needs.{needs}
 use Rattle.thrunglow.proofs.sheets.reading_of.Statement.{statement}
@@ -26,9 +27,11 @@ number-requires : tie.Need-number-requires
 number-requires c κs = search needs
 
 returns : tie.Need-returns
+unfolding sheetNumber sheetLabel sheetSettings sheetCount
 returns c = sym (ap readingOf (c .before .sheet .given .1))
 
 returns-2 : tie.Need-returns-2
+unfolding sheetNumber sheetLabel sheetSettings sheetCount
 returns-2 c = ap refusedBy (c .number .ensures) ∙ sym (ap readingOf (c .before .before .sheet2 .given .1))
 
 pub reading-of-spec : {M : Type 1} → statement M

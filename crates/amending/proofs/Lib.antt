@@ -1,0 +1,16 @@
+pub mod Split
+pub mod Front
+pub mod Meets
+pub mod Runs
+pub mod Amended
+pub mod ByMarks
+pub mod Steps
+pub mod Told
+pub mod Chained
+pub mod Stretch
+pub mod Places
+pub mod Copying
+pub mod Edits
+pub mod Looking
+pub mod Recuts
+pub mod Written

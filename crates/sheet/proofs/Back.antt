@@ -1,0 +1,133 @@
+-- Big-endian numbers there and back, over any width: numbers that are written are read again, and bytes that are read are written again.
+use mathlib.Core.Path.{_≡_, refl, ap, ap₂, _∙_}
+use mathlib.Core.List.{List, [], _∷_, _++_, append-assoc}
+use Prim.Native.Nat.{ℕ, zero, suc, _+_, _-_, _*_, _/_, _%_, _^_, _≤_, _<_}
+use native.Mathlib.Omega.{arith}
+use native.Mathlib.Nat.{mul-suc, mul-zero, mul-assoc, mod-eq-of-lt, mul-add-div-right, mul-add-mod-self-right, suc-ne-zero, le-refl, le-of-suc-le, mod-lt, add-comm}
+use lib.Pow.{pow-pos, pow-add, high, areBytes}
+use mathlib.Core.Bool.{true}
+use borrow.Author.Tests.{ltb-true}
+use lib.Dec.{lit<, ltb}
+use lib.ListN.{length, take, drop, getD, length-drop, take-append-drop}
+use lib.Seq.{take-at, drop-at, drop-nil, drop-cons, drop-append-add, length-take-le, getD-drop}
+use Rattle.laws.proofs.Cases.{both-true}
+use Rattle.sheet.specs.Numbers.{bigEndian, number, written, numbers, numberAt}
+use Rattle.sheet.proofs.BigEndian.{length-bigEndian, number-bigEndian, number-lt, numberAt-lt, part-bytes}
+
+-- every byte of a list is a byte, and every number of a list has a width
+abbrev pub Bytes : List ℕ → Type 0
+Bytes l = (i : ℕ) → getD l i 0 < 256
+
+abbrev pub Wide : ℕ → List ℕ → Type 0
+Wide width l = (i : ℕ) → getD l i 0 < 2 ^ (8 * width)
+
+-- numbers that are written are read again, whatever follows
+pub numbers-written : (width : ℕ) (l rest : List ℕ) → Wide width l → numbers width (length l) (written width l ++ rest) ≡ l
+unfolding numbers written
+numbers-written width [] rest h = refl
+numbers-written width (n ∷ l) rest h =
+    let first : number (take width (bigEndian width n ++ written width l ++ rest)) ≡ n =
+    rw (append-assoc, take-at (bigEndian width n) (written width l ++ rest) width (length-bigEndian width n), number-bigEndian) (mod-eq-of-lt (h 0)) in
+    let others : numbers width (length l) (drop width (bigEndian width n ++ written width l ++ rest)) ≡ l =
+    rw (append-assoc, drop-at (bigEndian width n) (written width l ++ rest) width (length-bigEndian width n)) (numbers-written width l rest (λ i. h (suc i))) in
+    ap₂ (λ (x : ℕ) (r : List ℕ). x ∷ r) first others
+
+-- what is above a byte does not show in it
+byte-low : (width h k n : ℕ) → width < k → (h * 2 ^ (8 * k) + n) / 2 ^ (8 * width) % 256 ≡ n / 2 ^ (8 * width) % 256
+byte-low width h k n le =
+    let above : 2 ^ (8 * k) ≡ 2 ^ (8 * (k - suc width)) * 256 * 2 ^ (8 * width) =
+    ap (λ (e : ℕ). 2 ^ e) (omega arith) ∙ pow-add 2 (8 * (k - suc width) + 8) (8 * width) ∙ rw (pow-add 2 (8 * (k - suc width)) 8) in
+    rw (above, ← (mul-assoc h (2 ^ (8 * (k - suc width)) * 256) (2 ^ (8 * width))), mul-add-div-right (pow-pos (8 * width)), ← (mul-assoc h (2 ^ (8 * (k - suc width))) 256))
+    (mul-add-mod-self-right (h * 2 ^ (8 * (k - suc width))) 256 (n / 2 ^ (8 * width)))
+
+-- of a number only its low bytes are written
+bigEndian-low : (width h k n : ℕ) → width ≤ k → bigEndian width (h * 2 ^ (8 * k) + n) ≡ bigEndian width n
+unfolding bigEndian
+bigEndian-low zero h k n le = refl
+bigEndian-low (suc width) h k n le =
+    ap₂ (λ (x : ℕ) (r : List ℕ). x ∷ r) (byte-low width h k n le) (bigEndian-low width h k n (le-of-suc-le le))
+
+-- bytes that are read are written again
+pub bigEndian-number : (l : List ℕ) → Bytes l → bigEndian (length l) (number l) ≡ l
+unfolding bigEndian number
+bigEndian-number [] h = refl
+bigEndian-number (b ∷ l) h =
+    let first : (b * 2 ^ (8 * length l) + number l) / 2 ^ (8 * length l) % 256 ≡ b =
+    rw (high b (8 * length l) (number-lt l (λ i. h (suc i)))) (mod-eq-of-lt (h 0)) in
+    let others : bigEndian (length l) (b * 2 ^ (8 * length l) + number l) ≡ l =
+    bigEndian-low (length l) b (length l) (number l) (le-refl _) ∙ bigEndian-number l (λ i. h (suc i)) in
+    ap₂ (λ (x : ℕ) (r : List ℕ). x ∷ r) first others
+
+-- the same of a part of bytes
+pub bigEndian-numberAt : (place width : ℕ) (bytes : List ℕ) → Bytes bytes → place + width ≤ length bytes
+    → bigEndian width (numberAt place width bytes) ≡ take width (drop place bytes)
+unfolding numberAt
+bigEndian-numberAt place width bytes h fits =
+    let size : length (take width (drop place bytes)) ≡ width = length-take-le width (drop place bytes) (rw length-drop (omega arith)) in
+    rw size at (bigEndian-number (take width (drop place bytes)) (part-bytes bytes place width h))
+
+pub drop-bytes : (k : ℕ) (bytes : List ℕ) → Bytes bytes → Bytes (drop k bytes)
+drop-bytes k bytes h i = rw getD-drop (h (k + i))
+
+-- and of all numbers of a width
+pub written-numbers : (width count : ℕ) (bytes : List ℕ) → Bytes bytes → length bytes ≡ width * count → written width (numbers width count bytes) ≡ bytes
+unfolding numbers written numberAt
+written-numbers width zero bytes h e = empty bytes (e ∙ mul-zero width)
+  where
+    empty : (l : List ℕ) → length l ≡ 0 → [] ≡ l
+    empty [] e = refl
+    empty (x ∷ l) e = absurd (suc-ne-zero _ e)
+written-numbers width (suc count) bytes h e =
+    let more : length bytes ≡ width * count + width = e ∙ mul-suc width count in
+    let first : bigEndian width (number (take width bytes)) ≡ take width bytes = bigEndian-numberAt 0 width bytes h (omega arith) in
+    let others : written width (numbers width count (drop width bytes)) ≡ drop width bytes =
+    written-numbers width count (drop width bytes) (drop-bytes width bytes h) (rw length-drop (omega arith)) in
+    rw (first, others) (take-append-drop width bytes)
+
+-- what is written is bytes
+pub bytes-test : (l : List ℕ) → areBytes l ≡ true → Bytes l
+bytes-test [] e i = lit< tt
+bytes-test (x ∷ l) e zero = ltb-true x 256 (both-true e .0)
+bytes-test (x ∷ l) e (suc i) = bytes-test l (both-true {a = ltb x 256} e .1) i
+
+pub bytes-append : (l m : List ℕ) → Bytes l → Bytes m → Bytes (l ++ m)
+bytes-append [] m hl hm i = hm i
+bytes-append (x ∷ l) m hl hm zero = hl 0
+bytes-append (x ∷ l) m hl hm (suc i) = bytes-append l m (λ j. hl (suc j)) hm i
+
+pub bytes-bigEndian : (width n : ℕ) → Bytes (bigEndian width n)
+unfolding bigEndian
+bytes-bigEndian zero n i = lit< tt
+bytes-bigEndian (suc width) n zero = mod-lt (n / 2 ^ (8 * width)) (lit< tt)
+bytes-bigEndian (suc width) n (suc i) = bytes-bigEndian width n i
+
+pub bytes-written : (width : ℕ) (l : List ℕ) → Bytes (written width l)
+unfolding written
+bytes-written width [] i = lit< tt
+bytes-written width (n ∷ l) i = bytes-append (bigEndian width n) (written width l) (bytes-bigEndian width n) (bytes-written width l) i
+
+-- numbers from a place on are written from that place on
+pub drop-written : (width j : ℕ) (l : List ℕ) → drop (width * j) (written width l) ≡ written width (drop j l)
+unfolding written
+drop-written width zero l = rw mul-zero
+drop-written width (suc j) [] = drop-nil (width * suc j)
+drop-written width (suc j) (n ∷ l) =
+    let size = length-bigEndian width n in
+    let past : drop (width + width * j) (bigEndian width n ++ written width l) ≡ drop (width * j) (written width l) =
+    rw size at (drop-append-add (bigEndian width n) (written width l) (width * j)) in
+    rw (mul-suc, add-comm (width * j) width, past) (drop-written width j l)
+
+-- the number that is written at a place is read there
+pub numberAt-written : (width j : ℕ) (l : List ℕ) → j < length l → Wide width l → numberAt (width * j) width (written width l) ≡ getD l j 0
+unfolding numberAt written
+numberAt-written width j l h wide =
+    rw (drop-written width j l, drop-cons l j 0 h, take-at (bigEndian width (getD l j 0)) (written width (drop (suc j) l)) width (length-bigEndian width (getD l j 0)), number-bigEndian)
+    (mod-eq-of-lt (wide j))
+
+-- numbers that are read from bytes have their width
+pub numbers-wide : (width count : ℕ) (bytes : List ℕ) → Bytes bytes → width * count ≤ length bytes → Wide width (numbers width count bytes)
+unfolding numbers numberAt
+numbers-wide width zero bytes h fits i = pow-pos (8 * width)
+numbers-wide width (suc count) bytes h fits zero = numberAt-lt bytes 0 width (omega (arith, rw mul-suc at fits)) h
+numbers-wide width (suc count) bytes h fits (suc i) =
+    numbers-wide width count (drop width bytes) (drop-bytes width bytes h) (rw length-drop (omega (arith, rw mul-suc at fits))) i

@@ -1,0 +1,119 @@
+-- What writing and reading a sheet promise of each other: the round trip, live is live, and the words add to zero.
+use mathlib.Core.Path.{_≡_, sym, _∙_}
+use mathlib.Core.Bool.{true, false}
+use mathlib.Core.List.{List, _++_}
+use Prim.Native.Nat.{ℕ, _+_, _*_, _%_, _^_, _≤_}
+use native.Mathlib.Omega.{arith}
+use lib.Dec.{leb, eqb}
+use lib.ListN.{length, take, getD, length-append}
+use borrow.Author.Tests.{leb-true, eqb-true}
+use Rattle.laws.proofs.Cases.{by-test}
+use Rattle.laws.proofs.Writing.{take-over}
+use Rattle.laws.specs.Over.{over}
+use Rattle.terms.specs.declared.Settings.{Settings}
+use Rattle.terms.specs.declared.Label.{Label}
+use Rattle.terms.specs.declared.Label.the-variants.{Live}
+use Rattle.terms.specs.declared.Answer.the-variants as answer
+use Rattle.terms.specs.declared.Refusal.{Refusal}
+use Rattle.terms.specs.declared.Refusal.the-variants.{SettingsOutOfRange, ListNotWellFormed, TooManyCuts, RoomTooShort, OtherLabel}
+use Rattle.terms.specs.Labels.{byteOf}
+use Rattle.terms.specs.Settings.{inRange}
+use Rattle.lists.specs.WellFormed.{wellFormed}
+use Rattle.sheet.specs.declared.Sheet.the-variants.{Read, Refused}
+use Rattle.sheet.specs.Numbers.{written, numbersOf}
+use Rattle.sheet.specs.Trailer.{mostCuts, trailerFor, fields, trailerIn}
+use Rattle.sheet.specs.Sheets.{total, withCheck, sheetOf}
+use Rattle.sheet.specs.Write.{writeAnswer, bytesAfter}
+use Rattle.sheet.specs.Read.{trailerBytes, trailerOf, readAnswer, listAfter}
+use Rattle.sheet.proofs.BigEndian.{length-bigEndian}
+use Rattle.sheet.proofs.Parts.{length-front}
+use Rattle.sheet.proofs.Reading.{accepts, read-is, judged}
+use Rattle.sheet.proofs.RoundTrip.{checked-with, found, reads-again}
+use Rattle.sheet.proofs.CheckWord.{checked-adds}
+
+-- every row's test passed
+pub record Writable (settings : Settings) (list : List ℕ) (room size : ℕ) : Type 0 where
+  pub in-range : inRange settings ≡ true
+  pub well-formed : wellFormed (settings .minimum) (settings .maximum) list ≡ true
+  pub few : length list ≤ mostCuts
+  pub roomy : 8 * length list + 32 ≤ room
+  pub whole : size ≡ 8 * length list + 32
+
+pub writable : (settings : Settings) (list : List ℕ) (room : ℕ) {size : ℕ} → writeAnswer settings list room ≡ answer.Wrote size → Writable settings list room size
+unfolding writeAnswer
+writable settings list room {size} e =
+    by-test (inRange settings)
+    (λ r. by-test (wellFormed (settings .minimum) (settings .maximum) list)
+    (λ w. by-test (leb (length list) mostCuts)
+    (λ f. by-test (leb (8 * length list + 32) room)
+    (λ m. record { in-range = r; well-formed = w; few = leb-true _ _ f; roomy = leb-true _ _ m; whole = same-size (sym e ∙ simp (r, w, f, m)) })
+    (λ m. never RoomTooShort (simp (r, w, f, m))))
+    (λ f. never TooManyCuts (simp (r, w, f))))
+    (λ w. never ListNotWellFormed (simp (r, w))))
+    (λ r. never SettingsOutOfRange (simp r))
+  where
+    same-size : {a b : ℕ} → answer.Wrote a ≡ answer.Wrote b → a ≡ b
+    same-size p = cc
+
+    never : (why : Refusal) → writeAnswer settings list room ≡ answer.Refused why → Writable settings list room size
+    never why p = let z : _≡_ {A = ℕ} 0 1 = cc in absurd (omega arith)
+
+pub length-sheet : (settings : Settings) (label : Label) (list : List ℕ) → length (sheetOf settings label list) ≡ 8 * length list + 32
+unfolding sheetOf withCheck
+length-sheet settings label list = rw (length-append, length-front, length-bigEndian) (omega arith)
+
+module _ (settings : Settings) (label : Label) (list bytes : List ℕ) {size : ℕ} (wrote : writeAnswer settings list (length bytes) ≡ answer.Wrote size) where
+  -- what a success answers is what it wrote
+  pub written-there : take size (bytesAfter settings label list bytes) ≡ sheetOf settings label list
+  unfolding bytesAfter
+  written-there =
+      let w = writable settings list (length bytes) wrote in
+      let whole : size ≡ length (sheetOf settings label list) = w .whole ∙ sym (length-sheet settings label list) in
+      rw (wrote, bytesAfter, whole) (take-over (sheetOf settings label list) bytes)
+
+  -- all 32-bit words of body and trailer add to zero modulo 2^32
+  pub words-add-to-zero : total (numbersOf 4 (take size (bytesAfter settings label list bytes))) % 2 ^ 32 ≡ 0
+  unfolding sheetOf
+  words-add-to-zero =
+      rw written-there
+      (checked-adds (sheetOf settings label list) (2 * length list + 7) (length-sheet settings label list ∙ omega arith)
+      (checked-with (written 8 list ++ fields (trailerFor settings label (length list)))))
+
+  module _ (before lent : List ℕ) where
+    -- demand 2: a sheet that is written and then read, with any bytes before it, gives the same label, settings and list
+    pub round-trip : length list ≤ length lent
+        → (readAnswer (before ++ take size (bytesAfter settings label list bytes)) label (length lent) ≡ Read (byteOf label) settings (length list))
+        × (listAfter (before ++ take size (bytesAfter settings label list bytes)) label lent ≡ over list lent)
+    unfolding listAfter
+    round-trip roomy =
+        let w = writable settings list (length bytes) wrote in
+        let again = reads-again settings label list before (w .in-range) (w .well-formed) (w .few) (length lent) roomy in
+        let the-list = found settings label list before (w .in-range) (w .well-formed) (w .few) .the-list in
+        rw written-there (again, rw (again, listAfter, the-list))
+
+    -- demand 1: asked for another label than its own, a sheet is refused and nothing is written
+    pub other-refused : (asked : Label) → eqb (byteOf label) (byteOf asked) ≡ false
+        → (readAnswer (before ++ take size (bytesAfter settings label list bytes)) asked (length lent) ≡ Refused OtherLabel)
+        × (listAfter (before ++ take size (bytesAfter settings label list bytes)) asked lent ≡ lent)
+    unfolding listAfter trailerFor
+    other-refused asked other =
+        let w = writable settings list (length bytes) wrote in
+        let f = found settings label list before (w .in-range) (w .well-formed) (w .few) in
+        let refusal : readAnswer (before ++ sheetOf settings label list) asked (length lent) ≡ Refused OtherLabel =
+        judged _ asked (length lent) (f .present) (f .right) (f .sound) (f .listed) ∙ rw (f .trailer) (simp other) in
+        rw written-there (refusal, rw (refusal, listAfter))
+
+-- demand 1: what is read when live is asked bears L, in the answer and in the trailer's bytes
+pub live-is-live : (bytes : List ℕ) (room : ℕ) {label count : ℕ} {settings : Settings} → readAnswer bytes Live room ≡ Read label settings count
+    → (label ≡ byteOf Live) × (getD (trailerBytes bytes) 4 0 ≡ byteOf Live)
+unfolding trailerOf trailerIn
+live-is-live bytes room {label} {count} {settings} e =
+    let a = accepts bytes Live room (λ why r. never why (sym r ∙ e)) in
+    let bears : trailerOf bytes .label ≡ byteOf Live = eqb-true _ _ (a .labelled) in
+    (same-label (sym e ∙ read-is bytes Live room a) ∙ bears, bears)
+  where
+    never : (why : Refusal) → Refused why ≡ Read label settings count → ⊥
+    never why p = let z : _≡_ {A = ℕ} 0 1 = cc in omega arith
+
+    same-label : {l m : ℕ} {s r : Settings} {c d : ℕ} → Read l s c ≡ Read m r d → l ≡ m
+    same-label p = cc
