@@ -1,6 +1,6 @@
--- `refused-leaves`: what a refusal leaves in lent memory. All but the guard leave it as it was; the guard keeps the cuts written.
+-- `refused-leaves`: what a refusal leaves in lent memory. Beside every number but 17 it is as it was; 17, the guard, keeps the cuts written.
 use Prim.Native.Nat.{ℕ}
-use mathlib.Core.Path.{_≡_, refl, ap}
+use mathlib.Core.Path.{_≡_, refl, sym, _∙_}
 use mathlib.Core.Bool.{Bool, true, false}
 use mathlib.Core.List.{List}
 use native.Mathlib.Omega.{arith}
@@ -11,55 +11,74 @@ use Rattle.terms.specs.declared.Settings.{Settings}
 use Rattle.terms.specs.declared.Label.{Label}
 use Rattle.terms.specs.declared.Answer.{Answer}
 use Rattle.terms.specs.declared.Answer.the-variants.{Wrote, Refused}
-use Rattle.terms.specs.declared.Refusal.{Refusal}
-use Rattle.terms.specs.declared.Refusal.the-variants.{SettingsOutOfRange, LogTooLong, RoomTooShort, ListFull}
-use Rattle.terms.specs.Refusals.{numberOf}
 use Rattle.terms.specs.Settings.{inRange}
-use Rattle.terms.specs.Answers.{unless, longest, roomFor}
+use Rattle.terms.specs.Answers.{answerNumber, unless, longest, roomFor}
+use Rattle.lists.specs.WellFormed.{wellFormed, lengthOf}
 use Rattle.cutting.specs.Marks.{cutList}
 use Rattle.cutting.specs.WholeLog.{cutLogAnswer, cutLogList, writtenAnswer, writtenList}
+use Rattle.amending.specs.Parts.{amendedList}
+use Rattle.amending.specs.Answers.{amendmentNumber, newCutsOf, editFits, partsAnswer, amendAnswer, amendList}
+use Rattle.sheet.specs.declared.Sheet.{Sheet}
 use Rattle.sheet.specs.declared.Sheet.the-variants as sheet
 use Rattle.sheet.specs.Write.{writeAnswer, bytesAfter}
 use Rattle.sheet.specs.Read.{readAnswer, listAfter}
+use Rattle.sheet.specs.Answers.{sheetNumber}
 
--- lent memory before and after a call: as it was beside every refusal but the guard, and with these cuts over it beside the guard
-pub record Leaves (answer : Answer) (before after cuts : List ℕ) : Type 0 where
-  pub untouched : (why : Refusal) → answer ≡ Refused why → (why ≡ ListFull → ⊥) → after ≡ before
-  pub guarded : answer ≡ Refused ListFull → after ≡ over (take (length before) cuts) before
+-- lent memory before and after a call that answered a number, and the cuts that it would write
+pub record Leaves (number : ℕ) (before after cuts : List ℕ) : Type 0 where
+  pub untouched : (number ≡ 0 → ⊥) → (number ≡ 17 → ⊥) → after ≡ before
+  pub guarded : number ≡ 17 → after ≡ over (take (length before) cuts) before
 
--- one row more: it leaves memory as it was
-row-leaves : (passes : Bool) (why : Refusal) {answer : Answer} {before after cuts : List ℕ} → (numberOf why ≡ 17 → ⊥)
-    → Leaves answer before after cuts → Leaves (unless passes (Refused why) answer) before (unless passes before after) cuts
-row-leaves true why other later = later
-row-leaves false why other later =
-    record { untouched = λ w e ne. refl; guarded = λ e. absurd (other (ap numberOf (same e))) }
-  where
-    same : {v w : Refusal} → Refused v ≡ Refused w → v ≡ w
-    same e = cc
+-- a row leaves memory as it was
+row-leaves : {A : Type 0} (number : A → ℕ) (passes : Bool) {refused answer : A} {before after cuts : List ℕ} → (number refused ≡ 17 → ⊥)
+    → Leaves (number answer) before after cuts → Leaves (number (unless passes refused answer)) before (unless passes before after) cuts
+row-leaves number true other later = later
+row-leaves number false other later = record { untouched = λ refusal guard. refl; guarded = λ guard. absurd (other guard) }
 
-written-leaves : (cuts list : List ℕ) → Leaves (writtenAnswer cuts (length list)) list (writtenList cuts list) cuts
-unfolding writtenAnswer writtenList
-written-leaves cuts list = record { untouched = λ why e ne. by-guard (leb (length cuts) (length list)) why e ne; guarded = λ e. refl }
-  where
-    by-guard : (fits : Bool) (why : Refusal) → unless fits (Refused ListFull) (Wrote (length cuts)) ≡ Refused why → (why ≡ ListFull → ⊥)
-        → over (take (length list) cuts) list ≡ list
-    by-guard true why e ne = let z : _≡_ {A = ℕ} 0 1 = cc in absurd (omega arith)
-    by-guard false why e ne = absurd (ne (cc))
+-- the guard keeps what is written
+guard-leaves : {A : Type 0} (number : A → ℕ) (fits : Bool) {refused answer : A} (cuts list : List ℕ) → number refused ≡ 17 → number answer ≡ 0
+    → Leaves (number (unless fits refused answer)) list (writtenList cuts list) cuts
+unfolding writtenList
+guard-leaves number true cuts list full fine =
+    record { untouched = λ refusal guard. absurd (refusal fine); guarded = λ guard. absurd (omega (arith, sym fine ∙ guard)) }
+guard-leaves number false cuts list full fine = record { untouched = λ refusal guard. absurd (guard full); guarded = λ guard. refl }
 
-pub whole-log-leaves : (s : Settings) (log list : List ℕ) → Leaves (cutLogAnswer s log (length list)) list (cutLogList s log list) (cutList s log)
-unfolding cutLogAnswer cutLogList
+pub whole-log-leaves : (s : Settings) (log list : List ℕ)
+    → Leaves (answerNumber (cutLogAnswer s log (length list))) list (cutLogList s log list) (cutList s log)
+unfolding cutLogAnswer cutLogList writtenAnswer answerNumber
 whole-log-leaves s log list =
-    row-leaves (inRange s) SettingsOutOfRange (omega arith)
-    (row-leaves (leb (length log) longest) LogTooLong (omega arith)
-    (row-leaves (leb (roomFor (s .minimum) (length log)) (length list)) RoomTooShort (omega arith)
-    (written-leaves (cutList s log) list)))
+    row-leaves answerNumber (inRange s) (omega arith)
+    (row-leaves answerNumber (leb (length log) longest) (omega arith)
+    (row-leaves answerNumber (leb (roomFor (s .minimum) (length log)) (length list)) (omega arith)
+    (guard-leaves answerNumber (leb (length (cutList s log)) (length list)) (cutList s log) list refl refl)))
 
-pub write-sheet-leaves : (s : Settings) (label : Label) (list bytes : List ℕ) (why : Refusal) → writeAnswer s list (length bytes) ≡ Refused why
+pub amend-leaves : (s : Settings) (old : List ℕ) (at removed added : ℕ) (log list : List ℕ)
+    → Leaves (amendmentNumber (amendAnswer s old at removed added log (length list))) list (amendList s old at removed added log list)
+    (amendedList (newCutsOf s log) old at removed added)
+unfolding amendAnswer amendList partsAnswer amendmentNumber
+amend-leaves s old at removed added log list =
+    let cuts = amendedList (newCutsOf s log) old at removed added in
+    row-leaves amendmentNumber (inRange s) (omega arith)
+    (row-leaves amendmentNumber (wellFormed (s .minimum) (s .maximum) old) (omega arith)
+    (row-leaves amendmentNumber (editFits (lengthOf old) at removed added (length log)) (omega arith)
+    (row-leaves amendmentNumber (leb (length log) longest) (omega arith)
+    (row-leaves amendmentNumber (leb (roomFor (s .minimum) (length log)) (length list)) (omega arith)
+    (guard-leaves amendmentNumber (leb (length cuts) (length list)) cuts list refl refl)))))
+
+pub write-sheet-leaves : (s : Settings) (label : Label) (list bytes : List ℕ) → (answerNumber (writeAnswer s list (length bytes)) ≡ 0 → ⊥)
     → bytesAfter s label list bytes ≡ bytes
-unfolding bytesAfter
-write-sheet-leaves s label list bytes why e = rw (e, bytesAfter)
+unfolding bytesAfter answerNumber
+write-sheet-leaves s label list bytes refusal = by-answer (writeAnswer s list (length bytes)) refl
+  where
+    by-answer : (answer : Answer) → writeAnswer s list (length bytes) ≡ answer → bytesAfter s label list bytes ≡ bytes
+    by-answer (Wrote size) e = absurd (refusal (rw e))
+    by-answer (Refused why) e = rw (e, bytesAfter)
 
-pub read-sheet-leaves : (bytes : List ℕ) (asked : Label) (list : List ℕ) (why : Refusal) → readAnswer bytes asked (length list) ≡ sheet.Refused why
+pub read-sheet-leaves : (bytes : List ℕ) (asked : Label) (list : List ℕ) → (sheetNumber (readAnswer bytes asked (length list)) ≡ 0 → ⊥)
     → listAfter bytes asked list ≡ list
-unfolding listAfter
-read-sheet-leaves bytes asked list why e = rw (e, listAfter)
+unfolding listAfter sheetNumber
+read-sheet-leaves bytes asked list refusal = by-answer (readAnswer bytes asked (length list)) refl
+  where
+    by-answer : (answer : Sheet) → readAnswer bytes asked (length list) ≡ answer → listAfter bytes asked list ≡ list
+    by-answer (sheet.Read label settings count) e = absurd (refusal (rw e))
+    by-answer (sheet.Refused why) e = rw (e, listAfter)

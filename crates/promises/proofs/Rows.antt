@@ -14,13 +14,15 @@ use Rattle.terms.specs.Settings.{inRange}
 use Rattle.terms.specs.Answers.{answerNumber, unless, longest, roomFor}
 use Rattle.cutting.specs.Marks.{cutList}
 use Rattle.cutting.specs.WholeLog.{cutLogAnswer, writtenAnswer}
-use Rattle.lists.specs.WellFormed.{wellFormed}
+use Rattle.lists.specs.WellFormed.{wellFormed, lengthOf}
+use Rattle.amending.specs.Parts.{amendedList}
+use Rattle.amending.specs.Answers.{amendmentNumber, newCutsOf, editFits, partsAnswer, amendAnswer}
 use Rattle.sheet.specs.Trailer.{mostCuts, trailerRight}
 use Rattle.sheet.specs.Sheets.{checked}
 use Rattle.sheet.specs.Write.{writeAnswer}
 use Rattle.sheet.specs.Read.{hasTrailer, hasList, trailerOf, sheetIn, readAnswer}
 use Rattle.sheet.specs.Answers.{sheetNumber}
-use Rattle.promises.specs.Rows.{whether, firstRow, wholeLogRows, writeSheetRows, readSheetRows}
+use Rattle.promises.specs.Rows.{whether, firstRow, wholeLogRows, amendRows, writeSheetRows, readSheetRows}
 
 -- the row that a test guards holds where the test fails
 guarded : {A : Type 0} (number : A → ℕ) {refused answer : A} {k later : ℕ} (passes holds : Bool) → holds ≡ not passes
@@ -45,6 +47,17 @@ whole-log-rows s log room =
     (unless-at-most answerNumber (length log) longest refl
     (unless-at-most answerNumber (roomFor (s .minimum) (length log)) room refl
     (unless-at-most answerNumber (length (cutList s log)) room refl refl)))
+
+pub amend-rows : (s : Settings) (old : List ℕ) (at removed added : ℕ) (log : List ℕ) (room : ℕ)
+    → amendmentNumber (amendAnswer s old at removed added log room) ≡ firstRow (amendRows s old at removed added log room)
+unfolding amendmentNumber amendAnswer partsAnswer amendRows firstRow
+amend-rows s old at removed added log room =
+    unless-not amendmentNumber (inRange s) refl
+    (unless-not amendmentNumber (wellFormed (s .minimum) (s .maximum) old) refl
+    (unless-not amendmentNumber (editFits (lengthOf old) at removed added (length log)) refl
+    (unless-at-most amendmentNumber (length log) longest refl
+    (unless-at-most amendmentNumber (roomFor (s .minimum) (length log)) room refl
+    (unless-at-most amendmentNumber (length (amendedList (newCutsOf s log) old at removed added)) room refl refl)))))
 
 pub write-sheet-rows : (s : Settings) (list : List ℕ) (room : ℕ) → answerNumber (writeAnswer s list room) ≡ firstRow (writeSheetRows s list room)
 unfolding answerNumber writeAnswer writeSheetRows firstRow

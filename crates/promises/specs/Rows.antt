@@ -9,8 +9,10 @@ use Rattle.terms.specs.declared.Label.{Label}
 use Rattle.terms.specs.Labels.{byteOf}
 use Rattle.terms.specs.Settings.{inRange}
 use Rattle.terms.specs.Answers.{longest, roomFor}
-use Rattle.lists.specs.WellFormed.{wellFormed}
+use Rattle.lists.specs.WellFormed.{wellFormed, lengthOf}
 use Rattle.cutting.specs.Marks.{cutList}
+use Rattle.amending.specs.Parts.{amendedList}
+use Rattle.amending.specs.Answers.{newCutsOf, editFits}
 use Rattle.sheet.specs.Trailer.{mostCuts, trailerRight}
 use Rattle.sheet.specs.Sheets.{checked}
 use Rattle.sheet.specs.Read.{hasTrailer, hasList, trailerOf, sheetIn}
@@ -40,6 +42,17 @@ wholeLogRows s log room =
     ∷ row 2 (ltb longest (length log))
     ∷ row 5 (ltb room (roomFor (s .minimum) (length log)))
     ∷ row 17 (ltb room (length (cutList s log)))
+    ∷ []
+
+-- amending: 1, 10, 11, 2, 5, and the guard
+unfoldable pub amendRows : Settings → List ℕ → (at removed added : ℕ) → List ℕ → ℕ → List Row
+amendRows s old at removed added log room =
+    row 1 (not (inRange s))
+    ∷ row 10 (not (wellFormed (s .minimum) (s .maximum) old))
+    ∷ row 11 (not (editFits (lengthOf old) at removed added (length log)))
+    ∷ row 2 (ltb longest (length log))
+    ∷ row 5 (ltb room (roomFor (s .minimum) (length log)))
+    ∷ row 17 (ltb room (length (amendedList (newCutsOf s log) old at removed added)))
     ∷ []
 
 -- writing a sheet: 1, 10, 16, 5

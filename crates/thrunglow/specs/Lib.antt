@@ -1,2 +1,3 @@
 pub mod Outcomes
 pub mod Sheets
+pub mod Amends
