@@ -26,3 +26,8 @@ pub use error::Error;
 pub use settings::Settings;
 pub use sheet::{Label, Sheet};
 pub use whole::cut_log;
+
+/// The handbook's programs, run as doc tests.
+#[cfg(doctest)]
+#[doc = include_str!("../../../docs/HANDBOOK.md")]
+struct Handbook;

@@ -177,3 +177,12 @@ fn each_refusal_says_what_to_do() {
         assert!(what > 15 && to_do > 15, "{error}");
     }
 }
+
+#[test]
+fn the_handbook_has_a_row_for_each_number() {
+    let handbook = read("../../docs/HANDBOOK.md");
+    for error in Error::ALL {
+        let row = format!("| {} | `{error:?}` | ", error.number());
+        assert_eq!(handbook.matches(&row).count(), 1, "{row}");
+    }
+}
