@@ -103,7 +103,7 @@ fn amend(input: &mut Input) {
     let end = old.last().copied().unwrap_or(0);
     let fitting = end.wrapping_sub(edit[1]).wrapping_add(edit[2]);
     let mut log = input.0.to_vec();
-    if choices % 8 != 0 && fitting < 5_000 {
+    if !choices.is_multiple_of(8) && fitting < 5_000 {
         log.resize(fitting as usize, choices);
     }
     let list = input.list(inputs::room(&settings, log.len() as u64));
@@ -115,11 +115,11 @@ fn block(input: &mut Input) {
     let (taken, since) = (input.number(), input.number());
     let choices = input.byte();
     let mut window: [u8; 48] = input.bytes();
-    if choices % 4 != 0 {
+    if !choices.is_multiple_of(4) {
         window[..48_u64.saturating_sub(taken) as usize].fill(0);
     }
     let mut signature = second::remainder(&window) as u32;
-    if choices / 4 % 8 == 0 {
+    if (choices / 4).is_multiple_of(8) {
         signature ^= u32::from_le_bytes(input.bytes());
     }
     let carry = Carry { settings, taken, since, window, signature, closed: choices >= 240 };

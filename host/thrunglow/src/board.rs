@@ -104,7 +104,7 @@ fn record_open_bays(
     };
     thread::scope(|scope| {
         let running: Vec<_> = (0..threads.get()).map(|_| scope.spawn(take_turns)).collect();
-        running.into_iter().map(|thread| thread.join().expect("a record does not panic")).collect()
+        running.into_iter().try_for_each(|thread| thread.join().expect("a record does not panic"))
     })
 }
 

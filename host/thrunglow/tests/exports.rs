@@ -14,21 +14,11 @@ fn read(path: &str) -> String {
     fs::read_to_string(&path).unwrap_or_else(|error| panic!("{}: {error}", path.display()))
 }
 
-/// Every file of code in the library's crates, joined.
-fn library() -> String {
-    let mut folders = vec![Path::new(env!("CARGO_MANIFEST_DIR")).join("../../crates")];
-    let mut code = String::new();
-    while let Some(folder) = folders.pop() {
-        for found in fs::read_dir(&folder).expect("a folder of the library") {
-            let path = found.expect("a file of the library").path();
-            if path.is_dir() {
-                folders.push(path);
-            } else if path.extension().is_some_and(|kind| kind == "rt") {
-                code += &fs::read_to_string(&path).expect("code");
-            }
-        }
-    }
-    code
+/// The code of a crate of the library, its files joined.
+fn library(name: &str) -> String {
+    let folder = Path::new(env!("CARGO_MANIFEST_DIR")).join("../../crates").join(name).join("src");
+    let files = fs::read_dir(&folder).unwrap_or_else(|error| panic!("{}: {error}", folder.display()));
+    files.map(|file| fs::read_to_string(file.expect("a file of the crate").path()).expect("code")).collect()
 }
 
 /// The parts of a text between commas or semicolons, trimmed, without the empty ones.
@@ -136,7 +126,7 @@ fn c_structs(header: &str) -> Declared {
 
 #[test]
 fn the_calls_are_declared_alike() {
-    let exported = rust_calls(&library(), "pub extern \"C\" fn ");
+    let exported = rust_calls(&library("thrunglow"), "pub extern \"C\" fn ");
     assert_eq!(exported.len(), 10, "{:?}", exported.keys());
     assert_eq!(c_calls(&header()), exported);
     let raw = read("src/raw.rs");
@@ -148,7 +138,7 @@ fn the_calls_are_declared_alike() {
 #[test]
 fn the_structs_are_declared_alike() {
     let names = ["Settings", "Carry", "Outcome", "Passed", "Amendment", "Reading"];
-    let mut exported = rust_structs(&library());
+    let mut exported = rust_structs(&["terms", "carry", "thrunglow"].map(library).concat());
     exported.retain(|name, _| names.contains(&name.as_str()));
     assert_eq!(exported.len(), names.len(), "{:?}", exported.keys());
     assert_eq!(c_structs(&header()), exported);
@@ -158,7 +148,7 @@ fn the_structs_are_declared_alike() {
 
 #[test]
 fn the_refusals_have_the_librarys_names_and_numbers() {
-    let code = library();
+    let code = library("terms");
     let rows = after(&code, "Refusal::", &['\n']).filter_map(|row| row.trim_end_matches(',').split_once(" => "));
     let mut numbered: BTreeMap<u32, String> = BTreeMap::new();
     for (name, number) in rows {

@@ -94,6 +94,20 @@ fn each_bit_of_a_list() {
 }
 
 #[test]
+fn a_list_of_each_length() {
+    let mut noise = Noise::new(2);
+    let log = noise.bytes(600);
+    let list = inputs::untrue_list(&mut noise, &TIGHT, 600);
+    for length in 0..=list.len() {
+        for cuts in [&list[..length], &list[length..]] {
+            compare::amend(TIGHT, cuts, [50, 0, 0], &log, &[7; 20]);
+            compare::amend(TIGHT, cuts, [0, 0, 600 - cuts.last().unwrap_or(&0)], &log, &[7; 20]);
+            compare::write_sheet(TIGHT, false, cuts, &[7; 150]);
+        }
+    }
+}
+
+#[test]
 fn each_bit_of_a_board() {
     let n = 700;
     let marks = [60, 110, 120, 200, 260, 300, 420, 421, 480, 600, 655, 700];

@@ -136,6 +136,31 @@ fn an_edit_at_each_place() {
     }
 }
 
+/// Every number of bits, with the least, the greatest and any target, and pieces of a few hundred to a few thousand bytes.
+#[test]
+fn settings_over_their_ranges() {
+    let mut noise = Noise::new(8);
+    let log = noise.bytes(12_000);
+    for bits in 1..=31 {
+        for target in [1, noise.between(1, (1 << bits) - 1), (1 << bits) - 1] {
+            let minimum = noise.between(48, 1_500);
+            let settings = Settings { bits, target: target as u32, minimum, maximum: minimum + noise.below(5_000) };
+            let (cuts, list) = whole(settings, &log);
+            assert_eq!(blocks(settings, log.chunks(noise.between(1_000, 5_000) as usize)), cuts);
+            let size = noise.between(3_000, 6_000);
+            let room = 2 + size;
+            let mut board = vec![0; (12_000_u64.div_ceil(size) * room) as usize];
+            for (index, bay) in board.chunks_mut(room as usize).enumerate() {
+                bay.copy_from_slice(&compare::record(settings, &log, size, index as u64, bay).1);
+            }
+            let (outcome, merged) = compare::merge(settings, 12_000, size, room, &board, &list);
+            assert_eq!((outcome.number, &merged[..outcome.count as usize]), (0, &cuts[..]));
+            let at = noise.below(12_000);
+            compare::amend(settings, &cuts, [at, 0, 0], &log, &list);
+        }
+    }
+}
+
 /// A longer log with random bytes, a stretch of zeros, and a run over and over.
 fn longer_log() -> Vec<u8> {
     let mut noise = Noise::new(6);
