@@ -118,13 +118,13 @@ module _ (lo hi n′ s d e : ℕ) (positive : 0 < lo) (newCuts : ℕ → List �
       steps-joined lo hi positive (front-steps parts old-reaches)
       (tail-reaches (lastOr 0 (front s old)) (pastFront s old) (newCuts (lastOr 0 (front s old))) (reaches-after lo hi (front s old) (pastFront s old) old-halves) (reach (lastOr 0 (front s old)) (omega arith)))
 
-  pub amended-well-formed : n′ ≤ 2 ^ 40 → wellFormed lo hi (amendedList newCuts old s d e) ≡ true
+  pub well-formed-again : n′ ≤ 2 ^ 40 → wellFormed lo hi (amendedList newCuts old s d e) ≡ true
   unfolding wellFormed
-  amended-well-formed low = fits lo hi positive low amended-reaches
+  well-formed-again low = fits lo hi positive low amended-reaches
 
-  pub amended-length : lengthOf (amendedList newCuts old s d e) ≡ n′
+  pub new-length : lengthOf (amendedList newCuts old s d e) ≡ n′
   unfolding lengthOf
-  amended-length = reaches-last lo hi amended-reaches
+  new-length = reaches-last lo hi amended-reaches
 
   met-length : (past news r : List ℕ) → Split (meets s d e past) news (before (meets s d e past) news) r → isEmpty r ≡ false → 0 < length (backFrom d e past r)
   unfolding backFrom isEmpty
@@ -141,9 +141,9 @@ module _ (lo hi n′ s d e : ℕ) (positive : 0 < lo) (newCuts : ℕ → List �
       (rw (reaches-last lo hi new-run, le-leb (s + e) n′ far, finds (wasAt d e n′) c past some-old place))
 
   -- where the old log is not empty and the new one is longer than the last front cut, a meeting exists: the new end meets the old end
-  pub meeting-exists : 0 < lengthOf old → restart s old < n′ → 0 < length (back newCuts old s d e)
+  pub meeting-there : 0 < lengthOf old → restart s old < n′ → 0 < length (back newCuts old s d e)
   unfolding restart back
-  meeting-exists some longer =
+  meeting-there some longer =
       let parts = front-is s old in
       let old-halves : Reaches lo hi 0 (front s old ++ pastFront s old) (lengthOf old) = rw (front-joined parts) old-reaches in
       let new-run = reach (restart s old) (omega arith) in

@@ -14,3 +14,5 @@ pub mod Edits
 pub mod Looking
 pub mod Recuts
 pub mod Written
+pub mod OverBytes
+pub mod Figures

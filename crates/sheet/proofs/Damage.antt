@@ -31,7 +31,7 @@ use Rattle.sheet.specs.Read.{trailerBytes, trailerOf, sheetIn, readAnswe
 use Rattle.sheet.proofs.BigEndian.{length-written, length-numbers}
 use Rattle.sheet.proofs.Back.{Bytes, Wide, numbers-written, written-numbers, drop-written, numberAt-written, numbers-wide, bytes-test, bytes-append, bytes-bigEndian, bytes-written}
 use Rattle.sheet.proofs.CheckWord.{checked-adds}
-use Rattle.sheet.proofs.Reading.{Accepts, accepts, right-facts}
+use Rattle.sheet.proofs.Reading.{Accepts, read-accepts, right-facts}
 use Rattle.sheet.proofs.RoundTrip.{found}
 use Rattle.sheet.proofs.Promised.{writable, written-there, length-sheet}
 
@@ -174,7 +174,4 @@ module _ (settings : Settings) (label : Label) (list bytes : List ℕ) {size : �
       go : (r : Sheet) → readAnswer (before ++ damaged k word (take size (bytesAfter settings label list bytes))) asked room ≡ r
           → (why : Refusal) × (readAnswer (before ++ damaged k word (take size (bytesAfter settings label list bytes))) asked room ≡ Refused why)
       go (Refused why) e = (why, e)
-      go (Read l s c) e = absurd (not-read (accepts _ asked room (λ why r. clash (sym r ∙ e))))
-        where
-          clash : {why : Refusal} → Refused why ≡ Read l s c → ⊥
-          clash p = let z : _≡_ {A = ℕ} 0 1 = cc in omega arith
+      go (Read l s c) e = absurd (not-read (read-accepts _ asked room e))

@@ -8,3 +8,4 @@ pub mod Back
 pub mod RoundTrip
 pub mod Promised
 pub mod Damage
+pub mod Canonical

@@ -27,7 +27,7 @@ use Rattle.sheet.specs.Write.{writeAnswer, bytesAfter}
 use Rattle.sheet.specs.Read.{trailerBytes, trailerOf, readAnswer, listAfter}
 use Rattle.sheet.proofs.BigEndian.{length-bigEndian}
 use Rattle.sheet.proofs.Parts.{length-front}
-use Rattle.sheet.proofs.Reading.{accepts, read-is, judged}
+use Rattle.sheet.proofs.Reading.{read-accepts, read-is, judged}
 use Rattle.sheet.proofs.RoundTrip.{checked-with, found, reads-again}
 use Rattle.sheet.proofs.CheckWord.{checked-adds}
 
@@ -107,13 +107,10 @@ module _ (settings : Settings) (label : Label) (list bytes : List ℕ) {size : �
 pub live-is-live : (bytes : List ℕ) (room : ℕ) {label count : ℕ} {settings : Settings} → readAnswer bytes Live room ≡ Read label settings count
     → (label ≡ byteOf Live) × (getD (trailerBytes bytes) 4 0 ≡ byteOf Live)
 unfolding trailerOf trailerIn
-live-is-live bytes room {label} {count} {settings} e =
-    let a = accepts bytes Live room (λ why r. never why (sym r ∙ e)) in
+live-is-live bytes room e =
+    let a = read-accepts bytes Live room e in
     let bears : trailerOf bytes .label ≡ byteOf Live = eqb-true _ _ (a .labelled) in
     (same-label (sym e ∙ read-is bytes Live room a) ∙ bears, bears)
   where
-    never : (why : Refusal) → Refused why ≡ Read label settings count → ⊥
-    never why p = let z : _≡_ {A = ℕ} 0 1 = cc in omega arith
-
-    same-label : {l m : ℕ} {s r : Settings} {c d : ℕ} → Read l s c ≡ Read m r d → l ≡ m
+    same-label : {l m c d : ℕ} {s r : Settings} → Read l s c ≡ Read m r d → l ≡ m
     same-label p = cc

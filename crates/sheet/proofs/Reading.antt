@@ -11,6 +11,7 @@ use lib.Seq.{take-all, length-take-le}
 use borrow.Author.Tests.{eq-eqb, ne-eqb, le-leb, lt-leb, leb-true, eqb-true}
 use Rattle.laws.proofs.Cases.{both-true, by-test}
 use Rattle.laws.specs.Over.{over}
+use Rattle.terms.specs.declared.Settings.{Settings}
 use Rattle.terms.specs.declared.Label.{Label}
 use Rattle.terms.specs.declared.Refusal.{Refusal}
 use Rattle.terms.specs.declared.Refusal.the-variants.{NoSheet, TrailerWrong, CheckWordWrong, ListNotWellFormed, OtherLabel, RoomTooShort}
@@ -135,7 +136,7 @@ module _ (bytes : List ℕ) (asked : Label) (room : ℕ) where
   judged p r s l = simp (p, r, s, l)
 
   -- what is not refused passed every row
-  pub accepts : ((why : Refusal) → readAnswer bytes asked room ≡ Refused why → ⊥) → Accepts bytes asked room
+  accepts : ((why : Refusal) → readAnswer bytes asked room ≡ Refused why → ⊥) → Accepts bytes asked room
   unfolding readAnswer
   accepts never =
       by-test (hasTrailer bytes)
@@ -151,6 +152,12 @@ module _ (bytes : List ℕ) (asked : Label) (room : ℕ) where
       (λ s. absurd (never CheckWordWrong (simp (p, r, s)))))
       (λ r. absurd (never TrailerWrong (simp (p, r)))))
       (λ p. absurd (never NoSheet (simp p)))
+
+  pub read-accepts : {label count : ℕ} {settings : Settings} → readAnswer bytes asked room ≡ Read label settings count → Accepts bytes asked room
+  read-accepts {label} {count} {settings} e = accepts (λ why r. clash why (sym r ∙ e))
+    where
+      clash : (why : Refusal) → Refused why ≡ Read label settings count → ⊥
+      clash why p = let z : _≡_ {A = ℕ} 0 1 = cc in omega arith
 
   -- what is read is the trailer's
   pub read-is : Accepts bytes asked room → readAnswer bytes asked room ≡ Read (trailerOf bytes .label) (trailerOf bytes .settings) (trailerOf bytes .count)

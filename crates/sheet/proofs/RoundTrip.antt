@@ -56,7 +56,7 @@ numberAt-back : (width n : ℕ) → n < 2 ^ (8 * width) → number (bigEndian wi
 numberAt-back width n h = number-bigEndian width n ∙ mod-eq-of-lt h
 
 -- the fields are found where they were written, whatever follows
-pub trailer-back : (t : Trailer) (rest : List ℕ) → inRange (t .settings) ≡ true → t .zeros < 65536 → t .count ≤ mostCuts → t .distance ≤ 8 * mostCuts → trailerIn (fields t ++ rest) ≡ t
+trailer-back : (t : Trailer) (rest : List ℕ) → inRange (t .settings) ≡ true → t .zeros < 65536 → t .count ≤ mostCuts → t .distance ≤ 8 * mostCuts → trailerIn (fields t ++ rest) ≡ t
 unfolding trailerIn fields written numberAt bigEndian
 trailer-back t rest ok zeros count distance =
     let r = ranges (t .settings) ok in
@@ -76,7 +76,7 @@ trailer-back t rest ok zeros count distance =
 
 -- where the parts of a sheet stand, with any bytes before it
 module _ (before body front word : List ℕ) (has-fields : length front ≡ 28) (has-word : length word ≡ 4) where
-  pub trailer-part : trailerBytes (before ++ (body ++ front ++ word)) ≡ front ++ word
+  trailer-part : trailerBytes (before ++ (body ++ front ++ word)) ≡ front ++ word
   unfolding trailerBytes
   trailer-part =
       let regroup : before ++ (body ++ front ++ word) ≡ before ++ body ++ (front ++ word) = simp append-assoc in
@@ -84,14 +84,14 @@ module _ (before body front word : List ℕ) (has-fields : length front ≡ 28) 
       rw (length-append (before ++ body) (front ++ word), length-append front word, has-fields, has-word) (omega arith) in
       rw (regroup, place) (drop-append-seam (before ++ body) (front ++ word))
 
-  pub sheet-part : trailerOf (before ++ (body ++ front ++ word)) .distance ≡ length body → sheetIn (before ++ (body ++ front ++ word)) ≡ body ++ front ++ word
+  sheet-part : trailerOf (before ++ (body ++ front ++ word)) .distance ≡ length body → sheetIn (before ++ (body ++ front ++ word)) ≡ body ++ front ++ word
   unfolding sheetIn
   sheet-part e =
       let place : length (before ++ (body ++ front ++ word)) - 32 - length body ≡ length before =
       rw (length-append before (body ++ front ++ word), length-append (body ++ front) word, length-append body front, has-fields, has-word) (omega arith) in
       rw (e, place) (drop-append-seam before (body ++ front ++ word))
 
-  pub list-part : trailerOf (before ++ (body ++ front ++ word)) .distance ≡ length body → listIn (before ++ (body ++ front ++ word)) ≡ numbersOf 8 body
+  list-part : trailerOf (before ++ (body ++ front ++ word)) .distance ≡ length body → listIn (before ++ (body ++ front ++ word)) ≡ numbersOf 8 body
   unfolding listIn
   list-part e = rw (sheet-part e, e, append-assoc, take-append-seam body (front ++ word))
 

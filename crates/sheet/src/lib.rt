@@ -18,11 +18,9 @@ use trailer::is_right;
 use trailer::put_fields;
 use trailer::trailer_in;
 ghost use mathlib.Core.Path.{_≡_};
-ghost use mathlib.Core.Bool.{true};
 ghost use Prim.Native.Nat.{_+_, _*_, _≤_, _<_};
 ghost use lib.ListN.{length};
 ghost use Rattle.laws.specs.Over.{over};
-ghost use Rattle.terms.specs.Settings.{inRange};
 ghost use Rattle.lists.specs.WellFormed.{wellFormed};
 ghost use Rattle.sheet.specs.Numbers.{numbersOf};
 ghost use Rattle.sheet.specs.Sheets.{sheetOf};
@@ -124,7 +122,8 @@ pub fn read_sheet(bytes: &[u8], asked: Label, list: &mut [u64]) -> Sheet
         return Sheet::Refused(Refusal::ListNotWellFormed);
     }
     let label = trailer.label;
-    if label != asked.byte() {
+    let wanted = asked.byte();
+    if label != wanted {
         return Sheet::Refused(Refusal::OtherLabel);
     }
     let count = trailer.count;

@@ -9,10 +9,6 @@ use Rattle.sheet.specs.Numbers.{numbersOf}
 use Rattle.sheet.proofs.Offsets.{offset-passed, offset-refused, offsets-end}
 use Rattle.sheet.proofs.is_well_formed.Statement.{statement}
 use Rattle.sheet.proofs.is_well_formed.Tie as tie
-use Rattle.sheet.proofs.is_well_formed.Reads as reads
-use Rattle.sheet.proofs.is_well_formed.Lts as lts
-use Rattle.lists.proofs.step_fits.Reads as step-fits-reads
-use Rattle.sheet.proofs.numbers.number_at.Reads as number-at-reads
 
 abbrev Inv-loop : tie.InvT-loop
 Inv-loop minimum maximum body count before₀ i₀ before i =

@@ -7,12 +7,6 @@ use Rattle.sheet.proofs.BigEndian.{length-written}
 use Rattle.sheet.proofs.Parts.{sheet-written}
 use Rattle.sheet.proofs.put_sheet.Statement.{statement}
 use Rattle.sheet.proofs.put_sheet.Tie as tie
-use Rattle.sheet.proofs.put_sheet.Reads as reads
-use Rattle.sheet.proofs.put_sheet.Lts as lts
-use Rattle.sheet.proofs.check.check_word.Reads as check-word-reads
-use Rattle.sheet.proofs.numbers.put_number.Reads as put-number-reads
-use Rattle.sheet.proofs.numbers.put_numbers.Reads as put-numbers-reads
-use Rattle.sheet.proofs.trailer.put_fields.Reads as put-fields-reads
 
 put-numbers-requires : tie.Need-put-numbers-requires
 put-numbers-requires c κs = omega (arith, length-written 8 (c .before .before .before .args .list .now))

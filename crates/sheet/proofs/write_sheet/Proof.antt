@@ -46,8 +46,9 @@ in-range-requires c κs = search needs
 returns : tie.Need-returns
 unfolding writeAnswer
 returns c =
-    let outside : inRange (c .before .before .before .before .args .settings) ≡ false = test-failed (c .before .in-range .ensures) (c .if1 .taken) in
-    refused (c .before .before .before .before .args .settings) (c .before .before .before .before .args .label) (c .before .before .before .before .args .list .now) (c .before .before .before .before .args .bytes .now) (simp outside)
+    let e = c .before .before .before .before .args in
+    let outside : inRange (e .settings) ≡ false = test-failed (c .before .in-range .ensures) (c .if1 .taken) in
+    refused (e .settings) (e .label) (e .list .now) (e .bytes .now) (simp outside)
 
 well-formed-requires : tie.Need-well-formed-requires
 well-formed-requires c κs = search needs
@@ -55,12 +56,22 @@ well-formed-requires c κs = search needs
 returns-2 : tie.Need-returns-2
 unfolding writeAnswer
 returns-2 c =
-    let malformed : wellFormed (c .before .before .before .before .before .before .args .settings .minimum) (c .before .before .before .before .before .before .args .settings .maximum) (c .before .before .before .before .before .before .args .list .now) ≡ false = test-failed (c .before .well-formed .ensures) (c .if2 .taken) in
-    refused (c .before .before .before .before .before .before .args .settings) (c .before .before .before .before .before .before .args .label) (c .before .before .before .before .before .before .args .list .now) (c .before .before .before .before .before .before .args .bytes .now) (simp (settings-right (c .before .before), malformed))
+    let e = c .before .before .before .before .before .before .args in
+    let malformed : wellFormed (e .settings .minimum) (e .settings .maximum) (e .list .now) ≡ false = test-failed (c .before .well-formed .ensures) (c .if2 .taken) in
+    refused (e .settings) (e .label) (e .list .now) (e .bytes .now) (simp (
+      settings-right (c .before .before),
+      malformed,
+    ))
 
 returns-3 : tie.Need-returns-3
 unfolding writeAnswer
-returns-3 c = refused (c .before .before .before .before .before .before .before .args .settings) (c .before .before .before .before .before .before .before .args .label) (c .before .before .before .before .before .before .before .args .list .now) (c .before .before .before .before .before .before .before .args .bytes .now) (simp (settings-right (c .before .before .before), list-right (c .before), lt-leb _ _ (c .if3 .taken)))
+returns-3 c =
+    let e = c .before .before .before .before .before .before .before .args in
+    refused (e .settings) (e .label) (e .list .now) (e .bytes .now) (simp (
+      settings-right (c .before .before .before),
+      list-right (c .before),
+      lt-leb _ _ (c .if3 .taken),
+    ))
 
 mul-size : tie.Need-mul-size
 mul-size c = search needs
@@ -70,7 +81,14 @@ add-size c = search needs
 
 returns-4 : tie.Need-returns-4
 unfolding writeAnswer
-returns-4 c = refused (c .before .before .before .before .before .before .before .before .args .settings) (c .before .before .before .before .before .before .before .before .args .label) (c .before .before .before .before .before .before .before .before .args .list .now) (c .before .before .before .before .before .before .before .before .args .bytes .now) (simp (settings-right (c .before .before .before .before), list-right (c .before .before), le-leb _ _ (c .before .if3 .left), lt-leb _ _ (c .if4 .taken)))
+returns-4 c =
+    let e = c .before .before .before .before .before .before .before .before .args in
+    refused (e .settings) (e .label) (e .list .now) (e .bytes .now) (simp (
+      settings-right (c .before .before .before .before),
+      list-right (c .before .before),
+      le-leb _ _ (c .before .if3 .left),
+      lt-leb _ _ (c .if4 .taken),
+    ))
 
 put-sheet-requires : tie.Need-put-sheet-requires
 put-sheet-requires c κs = omega (arith, ranges _ (settings-right (c .before .before .before .before .before)) .few-bits)
@@ -80,7 +98,14 @@ same-length c = search needs
 
 returns-5 : tie.Need-returns-5
 unfolding writeAnswer
-returns-5 c = wrote (c .before .before .before .before .before .before .before .before .before .before .before .before .args .settings) (c .before .before .before .before .before .before .before .before .before .before .before .before .args .label) (c .before .before .before .before .before .before .before .before .before .before .before .before .args .list .now) (c .before .before .before .before .before .before .before .before .before .before .before .before .args .bytes .now) (simp (settings-right (c .before .before .before .before .before .before .before .before), list-right (c .before .before .before .before .before .before), le-leb _ _ (c .before .before .before .before .before .if3 .left), le-leb _ _ (c .before .before .before .before .if4 .left))) (c .before .before .put-sheet .ensures)
+returns-5 c =
+    let e = c .before .before .before .before .before .before .before .before .before .before .before .before .args in
+    wrote (e .settings) (e .label) (e .list .now) (e .bytes .now) (simp (
+      settings-right (c .before .before .before .before .before .before .before .before),
+      list-right (c .before .before .before .before .before .before),
+      le-leb _ _ (c .before .before .before .before .before .if3 .left),
+      le-leb _ _ (c .before .before .before .before .if4 .left),
+    )) (c .before .before .put-sheet .ensures)
 
 pub write-sheet-spec : {M : Type 1} → statement M
 write-sheet-spec =

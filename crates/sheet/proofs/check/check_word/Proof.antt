@@ -9,11 +9,6 @@ use Rattle.sheet.specs.Sheets.{total}
 use Rattle.sheet.proofs.CheckWord.{sum-more, check-is}
 use Rattle.sheet.proofs.check.check_word.Statement.{statement}
 use Rattle.sheet.proofs.check.check_word.Tie as tie
-use Rattle.sheet.proofs.check.check_word.Reads as reads
-use Rattle.sheet.proofs.check.check_word.Lts as lts
-use Rattle.sheet.proofs.numbers.number_at.Reads as number-at-reads
-use Rattle.std.proofs.num.wrapping_add_u32.Reads as wrapping-add-u32-reads
-use Rattle.std.proofs.num.wrapping_sub_u32.Reads as wrapping-sub-u32-reads
 
 abbrev Inv-loop : tie.InvT-loop
 Inv-loop bytes sum₀ i₀ sum i = (i ≤ length bytes / 4) × (sum ≡ total (numbers 4 i bytes) % 2 ^ 32)

@@ -6,10 +6,6 @@ use borrow.Author.Needs.{needs}
 use Rattle.sheet.proofs.CheckWord.{checked-true, checked-false}
 use Rattle.sheet.proofs.check.is_checked.Statement.{statement}
 use Rattle.sheet.proofs.check.is_checked.Tie as tie
-use Rattle.sheet.proofs.check.is_checked.Reads as reads
-use Rattle.sheet.proofs.check.is_checked.Lts as lts
-use Rattle.sheet.proofs.check.check_word.Reads as check-word-reads
-use Rattle.sheet.proofs.numbers.number_at.Reads as number-at-reads
 
 sub-before : tie.Need-sub-before
 sub-before c = search needs

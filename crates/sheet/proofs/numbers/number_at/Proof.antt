@@ -8,9 +8,6 @@ use Rattle.sheet.specs.Numbers.{numberAt, number}
 use Rattle.sheet.proofs.BigEndian.{numberAt-more, byte-more, within-64}
 use Rattle.sheet.proofs.numbers.number_at.Statement.{statement}
 use Rattle.sheet.proofs.numbers.number_at.Tie as tie
-use Rattle.sheet.proofs.numbers.number_at.Reads as reads
-use Rattle.sheet.proofs.numbers.number_at.Lts as lts
-use Rattle.sheet.proofs.numbers.wide.Reads as wide-reads
 
 abbrev Inv-loop : tie.InvT-loop
 Inv-loop width at bytes number₀ i₀ number i = (i ≤ width) × (number ≡ numberAt at i bytes) × (number < 2 ^ (8 * i))

@@ -11,8 +11,6 @@ use Rattle.sheet.specs.Numbers.{bigEndian}
 use Rattle.sheet.proofs.BigEndian.{byte-written, length-bigEndian}
 use Rattle.sheet.proofs.numbers.put_number.Statement.{statement}
 use Rattle.sheet.proofs.numbers.put_number.Tie as tie
-use Rattle.sheet.proofs.numbers.put_number.Reads as reads
-use Rattle.sheet.proofs.numbers.put_number.Lts as lts
 
 abbrev Inv-loop : tie.InvT-loop
 Inv-loop width number at bytes₀ i₀ bytes i = (i ≤ width) × (bytes ≡ overFrom at (take i (bigEndian width number)) bytes₀) × (length bytes ≡ length bytes₀)

@@ -11,9 +11,6 @@ use Rattle.sheet.specs.Numbers.{written}
 use Rattle.sheet.proofs.BigEndian.{written-room, written-joined, length-written-more}
 use Rattle.sheet.proofs.numbers.put_numbers.Statement.{statement}
 use Rattle.sheet.proofs.numbers.put_numbers.Tie as tie
-use Rattle.sheet.proofs.numbers.put_numbers.Reads as reads
-use Rattle.sheet.proofs.numbers.put_numbers.Lts as lts
-use Rattle.sheet.proofs.numbers.put_number.Reads as put-number-reads
 
 abbrev Inv-loop : tie.InvT-loop
 Inv-loop width list at bytes₀ place₀ i₀ bytes place i =

@@ -10,9 +10,6 @@ use Rattle.sheet.specs.Numbers.{numbers, numbersOf}
 use Rattle.sheet.proofs.BigEndian.{offset-written}
 use Rattle.sheet.proofs.numbers.take_offsets.Statement.{statement}
 use Rattle.sheet.proofs.numbers.take_offsets.Tie as tie
-use Rattle.sheet.proofs.numbers.take_offsets.Reads as reads
-use Rattle.sheet.proofs.numbers.take_offsets.Lts as lts
-use Rattle.sheet.proofs.numbers.number_at.Reads as number-at-reads
 
 abbrev Inv-loop : tie.InvT-loop
 Inv-loop body list₀ i₀ list i = (i ≤ length body / 8) × (list ≡ over (numbers 8 i body) list₀) × (length list ≡ length list₀)

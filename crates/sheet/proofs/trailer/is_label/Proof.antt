@@ -3,8 +3,6 @@ use borrow.Author.Tests.{eq-eqb, ne-eqb}
 use Rattle.sheet.specs.Trailer.{isLabel}
 use Rattle.sheet.proofs.trailer.is_label.Statement.{statement}
 use Rattle.sheet.proofs.trailer.is_label.Tie as tie
-use Rattle.sheet.proofs.trailer.is_label.Reads as reads
-use Rattle.sheet.proofs.trailer.is_label.Lts as lts
 
 returns : tie.Need-returns
 unfolding isLabel

@@ -4,9 +4,6 @@ use lib.Seq.{length-take-le}
 use borrow.Author.Needs.{needs}
 use Rattle.sheet.proofs.trailer.is_marked.Statement.{statement}
 use Rattle.sheet.proofs.trailer.is_marked.Tie as tie
-use Rattle.sheet.proofs.trailer.is_marked.Reads as reads
-use Rattle.sheet.proofs.trailer.is_marked.Lts as lts
-use Rattle.sheet.proofs.trailer.same_bytes.Reads as same-bytes-reads
 
 slice-aggregate-same-bytes : tie.Need-slice-aggregate-same-bytes
 slice-aggregate-same-bytes c = search needs

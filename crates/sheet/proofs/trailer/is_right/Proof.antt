@@ -7,10 +7,6 @@ use Rattle.sheet.specs.Trailer.{isLabel, trailerRight}
 use Rattle.terms.specs.Settings.{inRange}
 use Rattle.sheet.proofs.trailer.is_right.Statement.{statement}
 use Rattle.sheet.proofs.trailer.is_right.Tie as tie
-use Rattle.sheet.proofs.trailer.is_right.Reads as reads
-use Rattle.sheet.proofs.trailer.is_right.Lts as lts
-use Rattle.sheet.proofs.trailer.is_label.Reads as is-label-reads
-use Rattle.terms.proofs.Settings.in_range.Reads as in-range-reads
 
 is-label-requires : tie.Need-is-label-requires
 is-label-requires c κs = search needs
@@ -42,22 +38,51 @@ returns-3 c = simp (label-right (c .before .before .before .before .before), set
 
 returns-4 : tie.Need-returns-4
 unfolding trailerRight
-returns-4 c = simp (label-right (c .before .before .before .before .before .before), settings-right (c .before .before .before), eq-eqb _ _ (c .before .if3 .left), lt-leb _ _ (c .if4 .taken))
+returns-4 c =
+    simp (
+      label-right (c .before .before .before .before .before .before),
+      settings-right (c .before .before .before),
+      eq-eqb _ _ (c .before .if3 .left),
+      lt-leb _ _ (c .if4 .taken),
+    )
 
 mul-if5 : tie.Need-mul-if5
 mul-if5 c = search needs
 
 returns-5 : tie.Need-returns-5
 unfolding trailerRight
-returns-5 c = simp (label-right (c .before .before .before .before .before .before .before), settings-right (c .before .before .before .before), eq-eqb _ _ (c .before .before .if3 .left), le-leb _ _ (c .before .if4 .left), ne-eqb _ _ (c .if5 .taken))
+returns-5 c =
+    simp (
+      label-right (c .before .before .before .before .before .before .before),
+      settings-right (c .before .before .before .before),
+      eq-eqb _ _ (c .before .before .if3 .left),
+      le-leb _ _ (c .before .if4 .left),
+      ne-eqb _ _ (c .if5 .taken),
+    )
 
 returns-6 : tie.Need-returns-6
 unfolding trailerRight
-returns-6 c = simp (label-right (c .before .before .before .before .before .before .before .before), settings-right (c .before .before .before .before .before), eq-eqb _ _ (c .before .before .before .if3 .left), le-leb _ _ (c .before .before .if4 .left), eq-eqb _ _ (c .before .if5 .left), lt-leb _ _ (c .if6 .taken))
+returns-6 c =
+    simp (
+      label-right (c .before .before .before .before .before .before .before .before),
+      settings-right (c .before .before .before .before .before),
+      eq-eqb _ _ (c .before .before .before .if3 .left),
+      le-leb _ _ (c .before .before .if4 .left),
+      eq-eqb _ _ (c .before .if5 .left),
+      lt-leb _ _ (c .if6 .taken),
+    )
 
 returns-7 : tie.Need-returns-7
 unfolding trailerRight
-returns-7 c = simp (label-right (c .before .before .before .before .before .before .before .before), settings-right (c .before .before .before .before .before), eq-eqb _ _ (c .before .before .before .if3 .left), le-leb _ _ (c .before .before .if4 .left), eq-eqb _ _ (c .before .if5 .left), le-leb _ _ (c .if6 .left))
+returns-7 c =
+    simp (
+      label-right (c .before .before .before .before .before .before .before .before),
+      settings-right (c .before .before .before .before .before),
+      eq-eqb _ _ (c .before .before .before .if3 .left),
+      le-leb _ _ (c .before .before .if4 .left),
+      eq-eqb _ _ (c .before .if5 .left),
+      le-leb _ _ (c .if6 .left),
+    )
 
 pub is-right-spec : {M : Type 1} → statement M
 is-right-spec =

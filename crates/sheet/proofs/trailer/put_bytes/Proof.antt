@@ -8,8 +8,6 @@ use Rattle.laws.specs.Over.{overFrom}
 use Rattle.laws.proofs.Writing.{overFrom-none, overFrom-next}
 use Rattle.sheet.proofs.trailer.put_bytes.Statement.{statement}
 use Rattle.sheet.proofs.trailer.put_bytes.Tie as tie
-use Rattle.sheet.proofs.trailer.put_bytes.Reads as reads
-use Rattle.sheet.proofs.trailer.put_bytes.Lts as lts
 
 abbrev Inv-loop : tie.InvT-loop
 Inv-loop part at bytes₀ i₀ bytes i = (i ≤ length part) × (bytes ≡ overFrom at (take i part) bytes₀) × (length bytes ≡ length bytes₀)

@@ -5,11 +5,6 @@ use Rattle.sheet.specs.Numbers.{bigEndian, written}
 use Rattle.sheet.proofs.Parts.{fields-written}
 use Rattle.sheet.proofs.trailer.put_fields.Statement.{statement}
 use Rattle.sheet.proofs.trailer.put_fields.Tie as tie
-use Rattle.sheet.proofs.trailer.put_fields.Reads as reads
-use Rattle.sheet.proofs.trailer.put_fields.Lts as lts
-use Rattle.sheet.proofs.numbers.put_numbers.Reads as put-numbers-reads
-use Rattle.sheet.proofs.trailer.put_bytes.Reads as put-bytes-reads
-use Rattle.terms.proofs.Label.byte.Reads as byte-reads
 
 mul-at : tie.Need-mul-at
 mul-at c = search needs

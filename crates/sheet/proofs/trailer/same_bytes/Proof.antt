@@ -7,8 +7,6 @@ use Rattle.sheet.specs.Read.{same}
 use Rattle.sheet.proofs.Same.{same-unequal, same-passed, same-refused, same-end}
 use Rattle.sheet.proofs.trailer.same_bytes.Statement.{statement}
 use Rattle.sheet.proofs.trailer.same_bytes.Tie as tie
-use Rattle.sheet.proofs.trailer.same_bytes.Reads as reads
-use Rattle.sheet.proofs.trailer.same_bytes.Lts as lts
 
 abbrev Inv-loop : tie.InvT-loop
 Inv-loop a b i₀ i = (i ≤ length a) × (length a ≡ length b) × (same a b ≡ same (drop i a) (drop i b))

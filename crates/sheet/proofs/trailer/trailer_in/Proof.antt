@@ -4,9 +4,6 @@ use borrow.Author.Needs.{needs}
 use Rattle.sheet.specs.Trailer.{trailerIn}
 use Rattle.sheet.proofs.trailer.trailer_in.Statement.{statement}
 use Rattle.sheet.proofs.trailer.trailer_in.Tie as tie
-use Rattle.sheet.proofs.trailer.trailer_in.Reads as reads
-use Rattle.sheet.proofs.trailer.trailer_in.Lts as lts
-use Rattle.sheet.proofs.numbers.number_at.Reads as number-at-reads
 
 shared-slice-read-bits : tie.Need-shared-slice-read-bits
 shared-slice-read-bits c = search needs

@@ -1,0 +1,69 @@
+-- What a block comes to, row by row.
+use Prim.Native.Nat.{ℕ, _+_, _≤_, _<_}
+use mathlib.Core.Path.{_≡_, refl, sym, ap, _∙_}
+use mathlib.Core.Bool.{true}
+use mathlib.Core.List.{List, []}
+use native.Mathlib.Omega.{arith}
+use lib.ListN.{length, take}
+use lib.Seq.{take-all}
+use borrow.Author.Tests.{le-leb, lt-leb}
+use Rattle.laws.specs.Over.{over}
+use Rattle.laws.proofs.Writing.{over-none}
+use Rattle.terms.specs.declared.Refusal.{Refusal}
+use Rattle.terms.specs.declared.Refusal.the-variants.{LogTooLong, RoomTooShort}
+use Rattle.terms.specs.Answers.{longest, roomFor, unless}
+use Rattle.cutting.specs.WholeLog.{writtenList}
+use Rattle.carry.specs.declared.Carry.{Carry}
+use Rattle.carry.specs.declared.Outcome.{Outcome}
+use Rattle.carry.specs.declared.order.Verdict.{Verdict}
+use Rattle.carry.specs.declared.order.Verdict.the-variants.{Fine, Wrong}
+use Rattle.carry.specs.Carries.{blockTaken, cutsIn}
+use Rattle.carry.specs.Calls.{refused, wrote, carryRows, takenOf, blockOf, blockList}
+use Rattle.carry.proofs.Rows.{refused-by, admitted-by}
+
+-- no bytes: nothing is taken and nothing written
+taken-none : (c : Carry) (room : ℕ) → wrote c 0 ≡ takenOf c [] room
+unfolding takenOf blockTaken cutsIn
+taken-none c room = rw (le-leb 0 room (omega arith))
+
+written-none : (c : Carry) (list : List ℕ) → list ≡ writtenList (cutsIn c []) list
+unfolding writtenList cutsIn
+written-none c list = sym (ap (λ l. over l list) (take-all (length list) [] (omega arith)) ∙ over-none list)
+
+-- v is the verdict on the carry
+module _ (c : Carry) (block list : List ℕ) {v : Verdict} (told : v ≡ carryRows c Wrong Fine) where
+  pub block-wrong : {why : Refusal} → v ≡ Wrong why → (refused c why ≡ blockOf c block (length list)) × (list ≡ blockList c block list)
+  unfolding blockOf blockList
+  block-wrong e = (sym (refused-by c (refused c) _ told e), sym (refused-by c (λ why. list) _ told e))
+
+  module _ (e : v ≡ Fine) where
+    pub block-long : longest < c .taken + length block → (refused c LogTooLong ≡ blockOf c block (length list)) × (list ≡ blockList c block list)
+    unfolding blockOf blockList
+    block-long h =
+        let long = lt-leb (c .taken + length block) longest h in
+        (sym (admitted-by c (refused c) _ told e ∙ rw long), sym (admitted-by c (λ why. list) _ told e ∙ rw long))
+
+    module _ (short : c .taken + length block ≤ longest) where
+      pub block-roomless : length list < roomFor (c .settings .minimum) (length block)
+          → (refused c RoomTooShort ≡ blockOf c block (length list)) × (list ≡ blockList c block list)
+      unfolding blockOf blockList
+      block-roomless h =
+          let fits = le-leb (c .taken + length block) longest short in
+          let none = lt-leb (roomFor (c .settings .minimum) (length block)) (length list) h in
+          (sym (admitted-by c (refused c) _ told e ∙ rw (fits, none)), sym (admitted-by c (λ why. list) _ told e ∙ rw (fits, none)))
+
+      module _ (room : roomFor (c .settings .minimum) (length block) ≤ length list) where
+        -- no row refuses it
+        pub block-fine : (takenOf c block (length list) ≡ blockOf c block (length list)) × (writtenList (cutsIn c block) list ≡ blockList c block list)
+        unfolding blockOf blockList
+        block-fine =
+            let fits = le-leb (c .taken + length block) longest short in
+            let lent = le-leb (roomFor (c .settings .minimum) (length block)) (length list) room in
+            (sym (admitted-by c (refused c) _ told e ∙ rw (fits, lent)), sym (admitted-by c (λ why. list) _ told e ∙ rw (fits, lent)))
+
+        pub block-empty : length block ≡ 0 → (wrote c 0 ≡ blockOf c block (length list)) × (list ≡ blockList c block list)
+        block-empty none =
+            let empty : [] ≡ block = take-all 0 block (omega arith) in (
+              taken-none c (length list) ∙ ap (λ l. takenOf c l (length list)) empty ∙ block-fine .0,
+              written-none c list ∙ ap (λ l. writtenList (cutsIn c l) list) empty ∙ block-fine .1,
+            )

@@ -1,0 +1,4 @@
+pub mod Carries
+pub mod Taking
+pub mod Calls
+pub mod SinglePass
