@@ -12,6 +12,7 @@ pub mod order;
 pub mod taking;
 
 // What the one-pass cutter carries over a block's edge.
+#[repr(C)]
 pub struct Carry {
     pub settings: Settings,
     // the bytes taken, and those of them since the last cut

@@ -14,7 +14,8 @@ use Rattle.terms.specs.declared.Settings.{Settings}
 use Rattle.rule.specs.Rule.{firstMark, next, Unmarked}
 use Rattle.rule.proofs.First.{first-at, first-none}
 use Rattle.signature.specs.Signatures.{degree, lowPart, rolled, signatureOf, window}
-use Rattle.signature.proofs.Windows.{Bytes, roll-slides}
+use Rattle.laws.specs.Bytes.{Bytes}
+use Rattle.signature.proofs.Windows.{roll-slides}
 use Rattle.cutting.specs.Marks.{matches, mark, nextCut}
 use Rattle.cutting.proofs.Marked.{mark-within}
 

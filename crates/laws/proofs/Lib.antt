@@ -1,3 +1,4 @@
+pub mod Bytes
 pub mod Cases
 pub mod Tables
 pub mod Writing

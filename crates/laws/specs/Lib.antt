@@ -1,3 +1,4 @@
+pub mod Bytes
 pub mod Last
 pub mod Over
 pub mod Tables

@@ -1,21 +1,29 @@
 -- `refused-leaves`: what a refusal leaves in lent memory. Beside every number but 17 it is as it was; 17, the guard, keeps the cuts written.
-use Prim.Native.Nat.{ℕ}
+use Prim.Native.Nat.{ℕ, _+_}
 use mathlib.Core.Path.{_≡_, refl, sym, _∙_}
-use mathlib.Core.Bool.{Bool, true, false}
+use mathlib.Core.Bool.{Bool, true, false, not}
 use mathlib.Core.List.{List}
 use native.Mathlib.Omega.{arith}
 use lib.Dec.{leb}
 use lib.ListN.{length, take}
 use Rattle.laws.specs.Over.{over}
+use Rattle.laws.proofs.Cases.{by-test}
 use Rattle.terms.specs.declared.Settings.{Settings}
 use Rattle.terms.specs.declared.Label.{Label}
 use Rattle.terms.specs.declared.Answer.{Answer}
 use Rattle.terms.specs.declared.Answer.the-variants.{Wrote, Refused}
 use Rattle.terms.specs.Settings.{inRange}
 use Rattle.terms.specs.Answers.{answerNumber, unless, longest, roomFor}
+use Rattle.terms.specs.declared.Refusal.{Refusal}
+use Rattle.terms.specs.declared.Refusal.the-variants.{SettingsOutOfRange, LogTooLong, CarryNotInOrder, CarryClosed, RoomTooShort, ListFull}
 use Rattle.lists.specs.WellFormed.{wellFormed, lengthOf}
 use Rattle.cutting.specs.Marks.{cutList}
 use Rattle.cutting.specs.WholeLog.{cutLogAnswer, cutLogList, writtenAnswer, writtenList}
+use Rattle.carry.specs.declared.Carry.{Carry}
+use Rattle.carry.specs.declared.Outcome.{Outcome}
+use Rattle.carry.specs.Carries.{inOrder, cutsIn}
+use Rattle.carry.specs.Calls.{refused, noCarry, carryRows, freshOf, blockOf, blockList, takenOf, closeOf, closeList, closingCut}
+use Rattle.promises.proofs.Rows.{passNumber}
 use Rattle.amending.specs.Parts.{amendedList}
 use Rattle.amending.specs.Answers.{amendmentNumber, newCutsOf, editFits, partsAnswer, amendAnswer, amendList}
 use Rattle.sheet.specs.declared.Sheet.{Sheet}
@@ -51,6 +59,57 @@ whole-log-leaves s log list =
     (row-leaves answerNumber (leb (length log) longest) (omega arith)
     (row-leaves answerNumber (leb (roomFor (s .minimum) (length log)) (length list)) (omega arith)
     (guard-leaves answerNumber (leb (length (cutList s log)) (length list)) (cutList s log) list refl refl)))
+
+-- a refused fresh hands out a carry with every part 0
+pub fresh-leaves : (s : Settings) → (answerNumber (freshOf s .answer) ≡ 0 → ⊥) → freshOf s .carry ≡ noCarry
+unfolding freshOf answerNumber
+fresh-leaves s refusal = by-test (inRange s) (λ e. absurd (refusal (rw e))) (λ e. rw e)
+
+-- a call of the single pass that is refused hands back its carry unaltered
+pub record HandsBack (c : Carry) (outcome : Outcome) : Type 0 where
+  pub unaltered : (answerNumber (outcome .answer) ≡ 0 → ⊥) → outcome .carry ≡ c
+
+row-hands : {c : Carry} (passes : Bool) (why : Refusal) {outcome : Outcome} → HandsBack c outcome → HandsBack c (unless passes (refused c why) outcome)
+row-hands true why later = later
+row-hands false why later = record { unaltered = λ refusal. refl }
+
+carry-hands : {c : Carry} {outcome : Outcome} → HandsBack c outcome → HandsBack c (carryRows c (refused c) outcome)
+carry-hands {c} later = row-hands (inRange (c .settings)) SettingsOutOfRange (row-hands (inOrder c) CarryNotInOrder (row-hands (not (c .closed)) CarryClosed later))
+
+fine-hands : {c : Carry} {outcome : Outcome} → answerNumber (outcome .answer) ≡ 0 → HandsBack c outcome
+fine-hands fine = record { unaltered = λ refusal. absurd (refusal fine) }
+
+pub block-hands-back : (c : Carry) (block : List ℕ) (room : ℕ) → HandsBack c (blockOf c block room)
+unfolding blockOf takenOf answerNumber
+block-hands-back c block room =
+    carry-hands
+    (row-hands (leb (c .taken + length block) longest) LogTooLong
+    (row-hands (leb (roomFor (c .settings .minimum) (length block)) room) RoomTooShort
+    (row-hands (leb (length (cutsIn c block)) room) ListFull (fine-hands refl))))
+
+pub close-hands-back : (c : Carry) (room : ℕ) → HandsBack c (closeOf c room)
+unfolding closeOf answerNumber
+close-hands-back c room = carry-hands (row-hands (leb 1 room) RoomTooShort (fine-hands refl))
+
+pub block-leaves : (c : Carry) (block list : List ℕ)
+    → Leaves (answerNumber (blockOf c block (length list) .answer)) list (blockList c block list) (cutsIn c block)
+unfolding passNumber blockOf takenOf blockList answerNumber
+block-leaves c block list =
+    row-leaves passNumber (inRange (c .settings)) (omega arith)
+    (row-leaves passNumber (inOrder c) (omega arith)
+    (row-leaves passNumber (not (c .closed)) (omega arith)
+    (row-leaves passNumber (leb (c .taken + length block) longest) (omega arith)
+    (row-leaves passNumber (leb (roomFor (c .settings .minimum) (length block)) (length list)) (omega arith)
+    (guard-leaves passNumber (leb (length (cutsIn c block)) (length list)) (cutsIn c block) list refl refl)))))
+
+pub close-leaves : (c : Carry) (list : List ℕ) → Leaves (answerNumber (closeOf c (length list) .answer)) list (closeList c list) (closingCut c)
+unfolding passNumber closeOf closeList answerNumber
+close-leaves c list =
+    row-leaves passNumber (inRange (c .settings)) (omega arith)
+    (row-leaves passNumber (inOrder c) (omega arith)
+    (row-leaves passNumber (not (c .closed)) (omega arith)
+    (row-leaves passNumber (leb 1 (length list)) (omega arith)
+    (record { untouched = λ refusal guard. absurd (refusal refl); guarded = λ guard. absurd (omega arith) }))))
 
 pub amend-leaves : (s : Settings) (old : List ℕ) (at removed added : ℕ) (log list : List ℕ)
     → Leaves (amendmentNumber (amendAnswer s old at removed added log (length list))) list (amendList s old at removed added log list)

@@ -23,6 +23,8 @@ use Rattle.signature.specs.Polynomials.{clmul, rem}
 use Rattle.signature.specs.Signatures.{number, window, signature, signatureOf, degree, lowPart}
 use Rattle.signature.proofs.Remainders.{rem-exactly}
 use Rattle.cutting.specs.Marks.{mark, matches, cutList}
+use Rattle.carry.specs.SinglePass.{Lent, joined, Roomy, writtenBy}
+use Rattle.carry.proofs.SinglePass as carry
 use Rattle.cutting.specs.WholeLog.{cutLogAnswer, cutLogList, writtenAnswer, writtenList}
 
 -- a mark lies from 48 to the log's end; the 48 bytes before it, as a polynomial, leave by x^31 + x^3 + 1 a remainder whose low K bits are the target
@@ -88,3 +90,8 @@ whole-log s log list k e =
     let short = past-row (leb (length log) longest) LogTooLong _ (range .1) in
     let room = past-row (leb (roomFor (s .minimum) (length log)) (length list)) RoomTooShort _ (short .1) in
     rw (range .0, short .0, room .0) (wrote-all (cutList s log) list k (room .1))
+
+-- fresh, the blocks in turn and close write, joined, the cuts of the joined log, for any blocks
+pub single-pass : (s : Settings) (calls : List Lent) (last : List ℕ) → inRange s ≡ true → length (joined calls) ≤ longest
+    → Roomy (s .minimum) calls → 1 ≤ length last → writtenBy s calls last ≡ cutList s (joined calls)
+single-pass = carry.single-pass

@@ -15,6 +15,10 @@ use Rattle.terms.specs.Answers.{answerNumber, unless, longest, roomFor}
 use Rattle.cutting.specs.Marks.{cutList}
 use Rattle.cutting.specs.WholeLog.{cutLogAnswer, writtenAnswer}
 use Rattle.lists.specs.WellFormed.{wellFormed, lengthOf}
+use Rattle.carry.specs.declared.Carry.{Carry}
+use Rattle.carry.specs.declared.Outcome.{Outcome}
+use Rattle.carry.specs.Carries.{inOrder, cutsIn}
+use Rattle.carry.specs.Calls.{freshOf, blockOf, takenOf, closeOf}
 use Rattle.amending.specs.Parts.{amendedList}
 use Rattle.amending.specs.Answers.{amendmentNumber, newCutsOf, editFits, partsAnswer, amendAnswer}
 use Rattle.sheet.specs.Trailer.{mostCuts, trailerRight}
@@ -22,7 +26,7 @@ use Rattle.sheet.specs.Sheets.{checked}
 use Rattle.sheet.specs.Write.{writeAnswer}
 use Rattle.sheet.specs.Read.{hasTrailer, hasList, trailerOf, sheetIn, readAnswer}
 use Rattle.sheet.specs.Answers.{sheetNumber}
-use Rattle.promises.specs.Rows.{whether, firstRow, wholeLogRows, amendRows, writeSheetRows, readSheetRows}
+use Rattle.promises.specs.Rows.{whether, firstRow, wholeLogRows, freshRows, blockRows, closeRows, amendRows, writeSheetRows, readSheetRows}
 
 -- the row that a test guards holds where the test fails
 guarded : {A : Type 0} (number : A → ℕ) {refused answer : A} {k later : ℕ} (passes holds : Bool) → holds ≡ not passes
@@ -40,6 +44,11 @@ unless-at-most number a b =
     guarded number (leb a b) (ltb b a)
     (by-lt b a (λ h. rw (lt-ltb b a h, lt-leb a b h)) (λ h. rw (le-ltb b a h, le-leb a b h)))
 
+unless-open : {A : Type 0} (number : A → ℕ) {refused answer : A} {k later : ℕ} (closed : Bool)
+    → number refused ≡ k → number answer ≡ later → number (unless (not closed) refused answer) ≡ whether closed k later
+unless-open number true is-k others = is-k
+unless-open number false is-k others = others
+
 pub whole-log-rows : (s : Settings) (log : List ℕ) (room : ℕ) → answerNumber (cutLogAnswer s log room) ≡ firstRow (wholeLogRows s log room)
 unfolding answerNumber cutLogAnswer writtenAnswer wholeLogRows firstRow
 whole-log-rows s log room =
@@ -47,6 +56,32 @@ whole-log-rows s log room =
     (unless-at-most answerNumber (length log) longest refl
     (unless-at-most answerNumber (roomFor (s .minimum) (length log)) room refl
     (unless-at-most answerNumber (length (cutList s log)) room refl refl)))
+
+-- the number that a call of the single pass answers
+unfoldable pub passNumber : Outcome → ℕ
+passNumber outcome = answerNumber (outcome .answer)
+
+pub fresh-rows : (s : Settings) → answerNumber (freshOf s .answer) ≡ firstRow (freshRows s)
+unfolding passNumber answerNumber freshOf freshRows firstRow
+fresh-rows s = unless-not passNumber (inRange s) refl refl
+
+pub block-rows : (c : Carry) (block : List ℕ) (room : ℕ) → answerNumber (blockOf c block room .answer) ≡ firstRow (blockRows c block room)
+unfolding passNumber answerNumber blockOf takenOf blockRows firstRow
+block-rows c block room =
+    unless-not passNumber (inRange (c .settings)) refl
+    (unless-not passNumber (inOrder c) refl
+    (unless-open passNumber (c .closed) refl
+    (unless-at-most passNumber (c .taken + length block) longest refl
+    (unless-at-most passNumber (roomFor (c .settings .minimum) (length block)) room refl
+    (unless-at-most passNumber (length (cutsIn c block)) room refl refl)))))
+
+pub close-rows : (c : Carry) (room : ℕ) → answerNumber (closeOf c room .answer) ≡ firstRow (closeRows c room)
+unfolding passNumber answerNumber closeOf closeRows firstRow
+close-rows c room =
+    unless-not passNumber (inRange (c .settings)) refl
+    (unless-not passNumber (inOrder c) refl
+    (unless-open passNumber (c .closed) refl
+    (unless-at-most passNumber 1 room refl refl)))
 
 pub amend-rows : (s : Settings) (old : List ℕ) (at removed added : ℕ) (log : List ℕ) (room : ℕ)
     → amendmentNumber (amendAnswer s old at removed added log room) ≡ firstRow (amendRows s old at removed added log room)

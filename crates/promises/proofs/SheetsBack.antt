@@ -14,7 +14,7 @@ use Rattle.sheet.specs.Numbers.{numbersOf}
 use Rattle.sheet.specs.Sheets.{total, sheetOf}
 use Rattle.sheet.specs.Write.{writeAnswer, bytesAfter}
 use Rattle.sheet.specs.Read.{sheetIn, listIn, readAnswer, listAfter}
-use Rattle.sheet.proofs.Back.{Bytes}
+use Rattle.laws.specs.Bytes.{Bytes}
 use Rattle.sheet.proofs.Damage.{damaged, damage-refused}
 use Rattle.sheet.proofs.Canonical as sheet
 use Rattle.sheet.proofs.Promised as sheets

@@ -11,6 +11,8 @@ use Rattle.terms.specs.Settings.{inRange}
 use Rattle.terms.specs.Answers.{longest, roomFor}
 use Rattle.lists.specs.WellFormed.{wellFormed, lengthOf}
 use Rattle.cutting.specs.Marks.{cutList}
+use Rattle.carry.specs.declared.Carry.{Carry}
+use Rattle.carry.specs.Carries.{inOrder, cutsIn}
 use Rattle.amending.specs.Parts.{amendedList}
 use Rattle.amending.specs.Answers.{newCutsOf, editFits}
 use Rattle.sheet.specs.Trailer.{mostCuts, trailerRight}
@@ -42,6 +44,30 @@ wholeLogRows s log room =
     ∷ row 2 (ltb longest (length log))
     ∷ row 5 (ltb room (roomFor (s .minimum) (length log)))
     ∷ row 17 (ltb room (length (cutList s log)))
+    ∷ []
+
+-- a fresh carry: 1
+unfoldable pub freshRows : Settings → List Row
+freshRows s = row 1 (not (inRange s)) ∷ []
+
+-- a block: 1, 3, 4, 2, 5, and the guard
+unfoldable pub blockRows : Carry → List ℕ → ℕ → List Row
+blockRows c block room =
+    row 1 (not (inRange (c .settings)))
+    ∷ row 3 (not (inOrder c))
+    ∷ row 4 (c .closed)
+    ∷ row 2 (ltb longest (c .taken + length block))
+    ∷ row 5 (ltb room (roomFor (c .settings .minimum) (length block)))
+    ∷ row 17 (ltb room (length (cutsIn c block)))
+    ∷ []
+
+-- closing: 1, 3, 4, 5
+unfoldable pub closeRows : Carry → ℕ → List Row
+closeRows c room =
+    row 1 (not (inRange (c .settings)))
+    ∷ row 3 (not (inOrder c))
+    ∷ row 4 (c .closed)
+    ∷ row 5 (ltb room 1)
     ∷ []
 
 -- amending: 1, 10, 11, 2, 5, and the guard

@@ -9,15 +9,14 @@ use mathlib.Core.Bool.{true}
 use borrow.Author.Tests.{ltb-true}
 use lib.Dec.{lit<, ltb}
 use lib.ListN.{length, take, drop, getD, length-drop, take-append-drop}
-use lib.Seq.{take-at, drop-at, drop-nil, drop-cons, drop-append-add, length-take-le, getD-drop}
+use lib.Seq.{take-at, drop-at, drop-nil, drop-cons, drop-append-add, length-take-le}
+use Rattle.laws.specs.Bytes.{Bytes}
+use Rattle.laws.proofs.Bytes.{number-lt, bytes-drop}
 use Rattle.laws.proofs.Cases.{both-true}
 use Rattle.sheet.specs.Numbers.{bigEndian, number, written, numbers, numberAt}
-use Rattle.sheet.proofs.BigEndian.{length-bigEndian, number-bigEndian, number-lt, numberAt-lt, part-bytes}
+use Rattle.sheet.proofs.BigEndian.{length-bigEndian, number-bigEndian, numberAt-lt, bytes-part}
 
--- every byte of a list is a byte, and every number of a list has a width
-abbrev pub Bytes : List ℕ → Type 0
-Bytes l = (i : ℕ) → getD l i 0 < 256
-
+-- every number of a list has a width
 abbrev pub Wide : ℕ → List ℕ → Type 0
 Wide width l = (i : ℕ) → getD l i 0 < 2 ^ (8 * width)
 
@@ -64,10 +63,7 @@ pub bigEndian-numberAt : (place width : ℕ) (bytes : List ℕ) → Bytes bytes 
 unfolding numberAt
 bigEndian-numberAt place width bytes h fits =
     let size : length (take width (drop place bytes)) ≡ width = length-take-le width (drop place bytes) (rw length-drop (omega arith)) in
-    rw size at (bigEndian-number (take width (drop place bytes)) (part-bytes bytes place width h))
-
-pub drop-bytes : (k : ℕ) (bytes : List ℕ) → Bytes bytes → Bytes (drop k bytes)
-drop-bytes k bytes h i = rw getD-drop (h (k + i))
+    rw size at (bigEndian-number (take width (drop place bytes)) (bytes-part bytes place width h))
 
 -- and of all numbers of a width
 pub written-numbers : (width count : ℕ) (bytes : List ℕ) → Bytes bytes → length bytes ≡ width * count → written width (numbers width count bytes) ≡ bytes
@@ -81,7 +77,7 @@ written-numbers width (suc count) bytes h e =
     let more : length bytes ≡ width * count + width = e ∙ mul-suc width count in
     let first : bigEndian width (number (take width bytes)) ≡ take width bytes = bigEndian-numberAt 0 width bytes h (omega arith) in
     let others : written width (numbers width count (drop width bytes)) ≡ drop width bytes =
-    written-numbers width count (drop width bytes) (drop-bytes width bytes h) (rw length-drop (omega arith)) in
+    written-numbers width count (drop width bytes) (bytes-drop width bytes h) (rw length-drop (omega arith)) in
     rw (first, others) (take-append-drop width bytes)
 
 -- what is written is bytes
@@ -130,4 +126,4 @@ unfolding numbers numberAt
 numbers-wide width zero bytes h fits i = pow-pos (8 * width)
 numbers-wide width (suc count) bytes h fits zero = numberAt-lt bytes 0 width (omega (arith, rw mul-suc at fits)) h
 numbers-wide width (suc count) bytes h fits (suc i) =
-    numbers-wide width count (drop width bytes) (drop-bytes width bytes h) (rw length-drop (omega (arith, rw mul-suc at fits))) i
+    numbers-wide width count (drop width bytes) (bytes-drop width bytes h) (rw length-drop (omega (arith, rw mul-suc at fits))) i

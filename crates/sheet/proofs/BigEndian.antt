@@ -4,20 +4,16 @@ use mathlib.Core.List.{List, [], _∷_, _++_, append-assoc, append-nil}
 use Prim.Native.Nat.{ℕ, zero, suc, _+_, _-_, _*_, _/_, _%_, _^_, _≤_, _<_}
 use native.Mathlib.Omega.{arith}
 use native.Mathlib.Numerals.{add-one}
-use native.Mathlib.Nat.{add-assoc, add-comm, mul-suc, mul-zero, mul-assoc, mul-comm, add-mul, mod-one, min-le-left, lt-of-lt-of-le, mul-le-mul-left, le-of-suc-le-suc}
-use lib.Pow.{pow-add, pow-mono, mod-pow-add}
-use lib.ListN.{length, take, drop, getD, set, length-append, length-take, length-drop, List·getD-eq-default}
-use lib.Seq.{take-append-le, drop-append-le, take-suc, length-take-le, getD-take, getD-drop, drop-drop}
+use native.Mathlib.Nat.{add-comm, mul-suc, mul-zero, mod-one, lt-of-lt-of-le, mul-le-mul-left, le-of-suc-le-suc}
+use lib.Pow.{pow-mono, mod-pow-add}
+use lib.ListN.{length, take, drop, getD, set, length-append, length-drop}
+use lib.Seq.{take-append-le, drop-append-le, take-suc, length-take-le, getD-drop, drop-drop}
 use lib.Arith.{digits-lt}
-use lib.Dec.{lit<}
-use Rattle.laws.proofs.Cases.{by-lt}
+use Rattle.laws.specs.Bytes.{Bytes}
+use Rattle.laws.proofs.Bytes.{byte-power, number-lt, number-snoc, bytes-take, bytes-drop}
 use Rattle.laws.proofs.Writing.{over-more, overFrom-next, overFrom-join}
 use Rattle.laws.specs.Over.{over, overFrom}
 use Rattle.sheet.specs.Numbers.{bigEndian, number, written, numbers, numberAt}
-
--- a byte more is 256 times as many
-pub pow-byte : (k : ℕ) → 2 ^ (8 * suc k) ≡ 2 ^ (8 * k) * 256
-pow-byte k = rw (mul-suc, pow-add)
 
 pub length-bigEndian : (width n : ℕ) → length (bigEndian width n) ≡ width
 unfolding bigEndian
@@ -41,47 +37,26 @@ number-bigEndian (suc width) n =
     rw (length-bigEndian width n, number-bigEndian width n)
     (sym (mod-pow-add n 8 (8 * width)) ∙ ap (λ (k : ℕ). n % 2 ^ k) (omega arith))
 
--- one byte more
-pub number-more : (l : List ℕ) (b : ℕ) → number (l ++ (b ∷ [])) ≡ number l * 256 + b
-unfolding number
-number-more [] b = omega arith
-number-more (x ∷ l) b = digit (length (l ++ (b ∷ []))) (length l) (number (l ++ (b ∷ []))) (number l) (rw (length-append, add-one)) (number-more l b)
-  where
-    digit : (k k′ n n′ : ℕ) → k ≡ suc k′ → n ≡ n′ * 256 + b → x * 2 ^ (8 * k) + n ≡ (x * 2 ^ (8 * k′) + n′) * 256 + b
-    digit k k′ n n′ e f = rw (e, f, pow-byte) (simp (add-mul, mul-assoc, add-assoc))
+-- a part of a list of bytes is one
+pub bytes-part : (l : List ℕ) (place width : ℕ) → Bytes l → Bytes (take width (drop place l))
+bytes-part l place width h = bytes-take width (drop place l) (bytes-drop place l h)
 
--- bytes stand for a number within their range
-pub number-lt : (l : List ℕ) → ((i : ℕ) → getD l i 0 < 256) → number l < 2 ^ (8 * length l)
-unfolding number
-number-lt [] h = lit< tt
-number-lt (x ∷ l) h = rw pow-byte (below x (number l) (2 ^ (8 * length l)) (h 0) (number-lt l (λ i. h (suc i))))
-  where
-    below : (x n p : ℕ) → x < 256 → n < p → x * p + n < p * 256
-    below x n p hx hn = rw (mul-comm p 256) (digits-lt hx hn)
-
--- a part of bytes is of bytes
-pub part-bytes : (l : List ℕ) (place width : ℕ) → ((i : ℕ) → getD l i 0 < 256) → (i : ℕ) → getD (take width (drop place l)) i 0 < 256
-part-bytes l place width h i =
-    by-lt i width
-    (λ lt. rw (getD-take width (drop place l) i 0 lt, getD-drop) (h (place + i)))
-    (λ ge. rw (List·getD-eq-default (take width (drop place l)) 0 {n = i} (rw length-take (omega (arith, min-le-left width (length (drop place l)))))) (lit< tt))
-
-pub numberAt-lt : (l : List ℕ) (place width : ℕ) → place + width ≤ length l → ((i : ℕ) → getD l i 0 < 256) → numberAt place width l < 2 ^ (8 * width)
+pub numberAt-lt : (l : List ℕ) (place width : ℕ) → place + width ≤ length l → Bytes l → numberAt place width l < 2 ^ (8 * width)
 unfolding numberAt
 numberAt-lt l place width fits h =
     let size : length (take width (drop place l)) ≡ width = length-take-le width (drop place l) (rw length-drop (omega arith)) in
-    rw size at (number-lt (take width (drop place l)) (part-bytes l place width h))
+    rw size at (number-lt (take width (drop place l)) (bytes-part l place width h))
 
 -- one byte more of the number at a place
 pub numberAt-more : (l : List ℕ) (place width : ℕ) → place + width < length l
     → numberAt place (width + 1) l ≡ numberAt place width l * 256 + getD l (place + width) 0
 unfolding numberAt
 numberAt-more l place width h =
-    rw (add-one, take-suc (drop place l) width 0 (rw length-drop (omega arith)), number-more, getD-drop)
+    rw (add-one, take-suc (drop place l) width 0 (rw length-drop (omega arith)), number-snoc, getD-drop)
 
 -- a byte more keeps a number within its range, and eight bytes within 64 bits
 pub byte-more : {n b : ℕ} (k : ℕ) → n < 2 ^ (8 * k) → b < 256 → n * 256 + b < 2 ^ (8 * (k + 1))
-byte-more {n} {b} k hn hb = rw (add-one, pow-byte) (digits-lt hn hb)
+byte-more {n} {b} k hn hb = rw (add-one, byte-power) (digits-lt hn hb)
 
 pub within-64 : {n : ℕ} (k : ℕ) → k ≤ 8 → n < 2 ^ (8 * k) → n < 2 ^ 64
 within-64 k h hn = lt-of-lt-of-le hn (pow-mono {i = 8 * k} {j = 64} (omega arith))

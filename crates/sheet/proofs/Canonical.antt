@@ -19,8 +19,10 @@ use Rattle.sheet.specs.Numbers.{bigEndian, written, numbersOf, numberAt}
 use Rattle.sheet.specs.Trailer.{mark, fields, trailerFor, trailerIn}
 use Rattle.sheet.specs.Sheets.{checkWord, checked, withCheck, sheetOf}
 use Rattle.sheet.specs.Read.{same, trailerBytes, trailerOf, sheetIn, listIn, hasTrailer, readAnswer}
-use Rattle.sheet.proofs.BigEndian.{length-numbers, part-bytes}
-use Rattle.sheet.proofs.Back.{Bytes, bigEndian-numberAt, written-numbers, drop-bytes}
+use Rattle.sheet.proofs.BigEndian.{length-numbers, bytes-part}
+use Rattle.laws.specs.Bytes.{Bytes}
+use Rattle.laws.proofs.Bytes.{bytes-drop}
+use Rattle.sheet.proofs.Back.{bigEndian-numberAt, written-numbers}
 use Rattle.sheet.proofs.Reading.{Accepts, read-accepts, read-is, right-facts}
 
 same-true : (a b : List ℕ) → same a b ≡ true → a ≡ b
@@ -64,9 +66,9 @@ sheet-back sheet n h long marked ok =
     let body = take (8 * n) sheet in
     let size : length body ≡ 8 * n = length-take-le (8 * n) sheet (omega arith) in
     let many : length body / 8 ≡ n = rw size (mul-div-cancel-left n {n = 8} (lit< tt)) in
-    let offsets : written 8 (numbersOf 8 body) ≡ body = rw many (written-numbers 8 n body (part-bytes sheet 0 (8 * n) h) size) in
+    let offsets : written 8 (numbersOf 8 body) ≡ body = rw many (written-numbers 8 n body (bytes-part sheet 0 (8 * n) h) size) in
     let trailer : fields (trailerIn (drop (8 * n) sheet)) ≡ take 28 (drop (8 * n) sheet) =
-    fields-back (drop (8 * n) sheet) (drop-bytes (8 * n) sheet h) (rw length-drop (omega arith)) marked in
+    fields-back (drop (8 * n) sheet) (bytes-drop (8 * n) sheet h) (rw length-drop (omega arith)) marked in
     let front : written 8 (numbersOf 8 body) ++ fields (trailerIn (drop (8 * n) sheet)) ≡ take (8 * n + 28) sheet =
     rw (offsets, trailer) (sym (take-add (8 * n) 28 sheet)) in
     let place : length sheet - 4 ≡ 8 * n + 28 = omega arith in
@@ -96,7 +98,7 @@ module _ (bytes : List ℕ) (h : Bytes bytes) (asked : Label) (room : ℕ) (a : 
       let long : length sheet ≡ 8 * t .count + 32 = rw length-drop (omega (arith, r .distance, r .body)) in
       let place : length bytes - 32 - t .distance + 8 * t .count ≡ length bytes - 32 = omega (arith, r .distance, r .body) in
       let last : drop (8 * t .count) sheet ≡ trailerBytes bytes = rw (drop-drop, place) in
-      let made = sheet-back sheet (t .count) (drop-bytes (length bytes - 32 - t .distance) bytes h) long (rw last (halves .1)) (a .sound) in
+      let made = sheet-back sheet (t .count) (bytes-drop (length bytes - 32 - t .distance) bytes h) long (rw last (halves .1)) (a .sound) in
       let body : take (8 * t .count) sheet ≡ take (t .distance) sheet = ap (λ (k : ℕ). take k sheet) (sym (r .distance)) in
       let size : length (take (t .distance) sheet) ≡ t .distance = length-take-le (t .distance) sheet (omega (arith, long, r .distance)) in
       let many : length (take (t .distance) sheet) / 8 ≡ t .count = rw (size, r .distance) (mul-div-cancel-left (t .count) {n = 8} (lit< tt)) in

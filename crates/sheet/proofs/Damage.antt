@@ -29,7 +29,8 @@ use Rattle.sheet.specs.Sheets.{total, checkWord, checked, withCheck, she
 use Rattle.sheet.specs.Write.{writeAnswer, bytesAfter}
 use Rattle.sheet.specs.Read.{trailerBytes, trailerOf, sheetIn, readAnswer}
 use Rattle.sheet.proofs.BigEndian.{length-written, length-numbers}
-use Rattle.sheet.proofs.Back.{Bytes, Wide, numbers-written, written-numbers, drop-written, numberAt-written, numbers-wide, bytes-test, bytes-append, bytes-bigEndian, bytes-written}
+use Rattle.laws.specs.Bytes.{Bytes}
+use Rattle.sheet.proofs.Back.{Wide, numbers-written, written-numbers, drop-written, numberAt-written, numbers-wide, bytes-test, bytes-append, bytes-bigEndian, bytes-written}
 use Rattle.sheet.proofs.CheckWord.{checked-adds}
 use Rattle.sheet.proofs.Reading.{Accepts, read-accepts, right-facts}
 use Rattle.sheet.proofs.RoundTrip.{found}

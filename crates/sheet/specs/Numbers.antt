@@ -1,17 +1,13 @@
 -- Big-endian numbers in bytes, each way: document 01, "The cut sheet".
-use Prim.Native.Nat.{ℕ, zero, suc, _+_, _*_, _/_, _%_, _^_}
+use Prim.Native.Nat.{ℕ, zero, suc, _*_, _/_, _%_, _^_}
 use mathlib.Core.List.{List, [], _∷_, _++_}
 use lib.ListN.{length, take, drop}
+unfoldable pub use Rattle.laws.specs.Bytes.{number}
 
 -- a number's low bytes, as many as the width, highest first
 unfoldable pub bigEndian : (width : ℕ) → ℕ → List ℕ
 bigEndian zero n = []
 bigEndian (suc width) n = n / 2 ^ (8 * width) % 256 ∷ bigEndian width n
-
--- the number that bytes stand for, highest first
-unfoldable pub number : List ℕ → ℕ
-number [] = 0
-number (byte ∷ rest) = byte * 2 ^ (8 * length rest) + number rest
 
 -- a list of numbers of one width, one after the other
 unfoldable pub written : (width : ℕ) → List ℕ → List ℕ

@@ -3,49 +3,21 @@
 use mathlib.Core.Path.{_≡_, sym, ap, ap₂, subst, _∙_}
 use mathlib.Core.List.{List, [], _∷_, _++_}
 use Prim.Native.Nat.{ℕ, zero, suc, _+_, _-_, _*_, _/_, _%_, _^_, _≤_, _<_}
-use native.Mathlib.Nat.{mul-suc, mul-comm, le-of-lt, mod-lt, lt-of-lt-of-le, not-suc-le-zero}
+use native.Mathlib.Nat.{le-of-lt, mod-lt, lt-of-lt-of-le, not-suc-le-zero}
 use native.Mathlib.Numerals.{add-one}
 use native.Mathlib.Omega.{arith}
 use lib.Arith.{digits-lt}
 use lib.Dec.{lit<, lit≤}
-use lib.Pow.{pow-pos, pow-add, pow-mono, shl-exact}
+use lib.Pow.{pow-pos, pow-mono, shl-exact}
 use lib.Bits.{bitAnd, bitOr, bitXor, and-mask, or-shifted, xor-comm, xor-shifted}
-use lib.ListN.{length, getD, take, drop, length-append, length-drop}
+use lib.ListN.{length, getD, take, drop, length-drop}
 use lib.Seq.{take-suc, drop-cons, getD-drop, length-take-le}
+use Rattle.laws.proofs.Bytes.{byte-power, number-lt, number-snoc, bytes-drop, bytes-take}
+pub use Rattle.laws.specs.Bytes.{Bytes}
 use Rattle.signature.specs.Polynomials.{rem}
 use Rattle.signature.specs.Signatures.{number, signature, grown, rolled, degree, lowPart, span, signatureOf, window}
 use Rattle.signature.proofs.Xor.{xor-cancel}
 use Rattle.signature.proofs.Remainders.{rem-lt, rem-small, rem-xor, rem-shift, rem-by-top}
-
-abbrev pub Bytes : List ℕ → Type 0
-Bytes bs = (j : ℕ) → getD bs j 0 < 2 ^ 8
-
-byte-power : (n : ℕ) → 2 ^ (8 * suc n) ≡ 2 ^ (8 * n) * 2 ^ 8
-byte-power n = ap (λ (k : ℕ). 2 ^ k) (mul-suc 8 n) ∙ pow-add 2 (8 * n) 8
-
-pub number-lt : (bs : List ℕ) → Bytes bs → number bs < 2 ^ (8 * length bs)
-unfolding number
-number-lt [] h = lit< tt
-number-lt (b ∷ bs) h =
-    subst (λ (x : ℕ). b * 2 ^ (8 * length bs) + number bs < x) (sym (byte-power (length bs) ∙ mul-comm (2 ^ (8 * length bs)) (2 ^ 8)))
-    (digits-lt (h 0) (number-lt bs (λ j. h (suc j))))
-
-snoc-power : (bs : List ℕ) (e : ℕ) → 2 ^ (8 * length (bs ++ e ∷ [])) ≡ 2 ^ (8 * length bs) * 2 ^ 8
-snoc-power bs e = ap (λ (n : ℕ). 2 ^ (8 * n)) (length-append bs (e ∷ []) ∙ add-one (length bs)) ∙ byte-power (length bs)
-
-number-snoc : (bs : List ℕ) (e : ℕ) → number (bs ++ e ∷ []) ≡ number bs * 2 ^ 8 + e
-unfolding number
-number-snoc [] e = omega arith
-number-snoc (b ∷ bs) e = ap₂ (λ (x y : ℕ). b * x + y) (snoc-power bs e) (number-snoc bs e) ∙ omega arith
-
-bytes-drop : (n : ℕ) (bs : List ℕ) → Bytes bs → Bytes (drop n bs)
-bytes-drop n bs h j = rw getD-drop (h (n + j))
-
-bytes-take : (n : ℕ) (bs : List ℕ) → Bytes bs → Bytes (take n bs)
-bytes-take zero bs h j = lit< tt
-bytes-take (suc n) [] h j = lit< tt
-bytes-take (suc n) (b ∷ bs) h zero = h 0
-bytes-take (suc n) (b ∷ bs) h (suc j) = bytes-take n bs (λ i. h (suc i)) j
 
 -- one byte more on b and n below it, where p is the power that b stands at
 one-up : (b p p′ n e : ℕ) → p′ ≡ p * 2 ^ 8 → (b * p + n) * 2 ^ 8 + e ≡ b * p′ + (n * 2 ^ 8 + e)

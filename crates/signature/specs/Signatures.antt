@@ -1,16 +1,13 @@
 -- The signature of a run of bytes, and how it rolls: document 01, "Signature and marks".
-use Prim.Native.Nat.{ℕ, _+_, _*_, _^_}
-use mathlib.Core.List.{List, [], _∷_}
+use Prim.Native.Nat.{ℕ, _*_, _^_}
+use mathlib.Core.List.{List}
 use lib.Bits.{bitXor}
-use lib.ListN.{length, take, drop}
+use lib.ListN.{take, drop}
+unfoldable pub use Rattle.laws.specs.Bytes.{number}
 use Rattle.laws.specs.Tables.{tabulate}
 use Rattle.signature.specs.Polynomials.{rem}
 
--- bytes read as one polynomial, the first byte highest, each byte's top bit highest
-unfoldable pub number : List ℕ → ℕ
-number [] = 0
-number (b ∷ bs) = b * 2 ^ (8 * length bs) + number bs
-
+-- the bytes as one polynomial, the first byte highest, each byte's top bit highest, and its remainder
 unfoldable pub signature : ℕ → ℕ → List ℕ → ℕ
 signature d l bytes = rem d l (number bytes)
 

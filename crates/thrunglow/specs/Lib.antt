@@ -1,3 +1,4 @@
 pub mod Outcomes
-pub mod Sheets
+pub mod Pass
 pub mod Amends
+pub mod Sheets

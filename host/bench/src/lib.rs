@@ -1,3 +1,6 @@
-//! What the library's speed is measured beside.
+//! The library's speed, and what it is measured beside.
 
 pub mod baseline;
+pub mod contest;
+pub mod restic;
+pub mod ways;

@@ -1,0 +1,73 @@
+-- `listing::put_number` meets its contract: a 64-bit number has at most 20 digits.
+use borrow.Author.Needs.{needs}
+use denote.Ref.{now}
+use Prim.Native.Nat.{ℕ, _+_, _-_, _^_, _≤_, _<_}
+use mathlib.Core.Path.{_≡_}
+use native.Mathlib.Nat.{pow-le-pow-right}
+use native.Mathlib.Omega.{arith}
+use lib.Dec.{lit<, lit≤}
+use lib.ListN.{length, take, drop, length-take, length-drop}
+use Rattle.io.specs.Digits.{Fewest}
+use Rattle.laws.proofs.Cases.{by-lt}
+use Rattle.listing.proofs.put_number.Statement.{statement}
+use Rattle.listing.proofs.put_number.Tie as tie
+
+few-digits : (n k : ℕ) → n < 2 ^ 64 → Fewest 10 1 n k → k ≤ 20
+few-digits n k low fewest =
+    by-lt 20 k
+    (λ many.
+    let high : 10 ^ 20 ≤ 10 ^ (k - 1) = pow-le-pow-right {n = 10} (lit< tt) {i = 20} {j = k - 1} (omega arith) in
+    let least : 10 ^ (k - 1) ≤ n = fewest .2 (omega arith) in
+    absurd (omega arith))
+    (λ few. few)
+
+-- where the digits are known
+short : (c : tie.After-decimal) → c .decimal .result ≤ 20
+short c = few-digits (c .before .before .before .args .n) (c .decimal .result) (c .before .before .before .fits .n .fits) (c .decimal .ensures .1 .0)
+
+decimal-requires : tie.Need-decimal-requires
+decimal-requires c κs = search needs
+
+array-share-prefix-digits : tie.Need-array-share-prefix-digits
+array-share-prefix-digits c = search needs
+
+slice-aggregate-copy : tie.Need-slice-aggregate-copy
+slice-aggregate-copy c = search needs
+
+sub-copy : tie.Need-sub-copy
+sub-copy c = search needs
+
+part-copy-start : tie.Need-part-copy-start
+part-copy-start c = search needs
+
+part-copy-end : tie.Need-part-copy-end
+part-copy-end c = search needs
+
+copy-requires : tie.Need-copy-requires
+copy-requires c κs =
+    let start = c .before .before .before .before .before in
+    simp (length-take, length-drop) (omega (arith, short (c .before .before), start .pre))
+
+add-result : tie.Need-add-result
+add-result c = omega (arith, short (c .before .before .before .before .before), c .before .before .before .before .before .before .before .before .pre, c .before .before .before .before .before .before .before .before .good .0 .0)
+
+same-length : tie.Need-same-length
+same-length c = search needs
+
+returns : tie.Need-returns
+returns c = omega (arith, short (c .before .before .before .before .before))
+
+pub put-number-spec : {M : Type 1} → statement M
+put-number-spec =
+    tie.close
+    (tie.spec
+    decimal-requires
+    array-share-prefix-digits
+    slice-aggregate-copy
+    sub-copy
+    part-copy-start
+    part-copy-end
+    copy-requires
+    add-result
+    same-length
+    returns)

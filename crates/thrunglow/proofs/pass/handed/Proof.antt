@@ -1,0 +1,20 @@
+-- `thrunglow::pass::handed` meets its contract: the answer's number and count, with the carry.
+use mathlib.Core.Path.{ap}
+use Rattle.carry.specs.declared.Carry.{Carry}
+use Rattle.thrunglow.specs.declared.answers.Outcome.{Outcome}
+use Rattle.thrunglow.specs.declared.pass.Passed.{Passed}
+use borrow.Author.Needs.{needs}
+use Rattle.thrunglow.proofs.pass.handed.Statement.{statement}
+use Rattle.thrunglow.proofs.pass.handed.Tie as tie
+
+abbrev withCarry : Carry → Outcome → Passed
+withCarry carry plain = record { number = plain .number; count = plain .count; carry = carry }
+
+numbered-requires : tie.Need-numbered-requires
+numbered-requires c κs = search needs
+
+returns : tie.Need-returns
+returns c = ap (withCarry (c .before .before .args .outcome .carry)) (c .numbered .ensures)
+
+pub handed-spec : {M : Type 1} → statement M
+handed-spec = tie.close (tie.spec numbered-requires returns)

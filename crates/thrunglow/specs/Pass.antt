@@ -1,0 +1,12 @@
+-- The single pass as the exported calls answer it.
+use Rattle.terms.specs.Answers.{answerNumber, answerCount}
+use Rattle.carry.specs.declared.Outcome.{Outcome}
+use Rattle.thrunglow.specs.declared.pass.Passed.{Passed}
+
+abbrev pub passedOf : Outcome → Passed
+passedOf outcome =
+    record {
+      number = answerNumber (outcome .answer);
+      count = answerCount (outcome .answer);
+      carry = outcome .carry;
+    }
