@@ -1,7 +1,11 @@
 // Runs the figures of document 01 that are no theorems, and the refusals of each call. Its stdout is written by hand from the paper.
+mod amends;
+mod sheets;
 mod show;
 mod whole;
 
 fn main() {
     whole::run();
+    amends::run();
+    sheets::run();
 }

@@ -24,7 +24,7 @@ pub fn answer(what: &[u8], answer: Answer) {
     }
 }
 
-fn after_space(n: u64) {
+pub fn after_space(n: u64) {
     text(b" ");
     number(n);
 }
@@ -40,5 +40,30 @@ fn each(list: &[u64]) {
 
 pub fn entries(list: &[u64]) {
     each(list);
+    text(b"\n");
+}
+
+fn hex_digits(byte: u8) {
+    io::print_hex(STDOUT_FILENO, byte as u64, 2);
+}
+
+// The first bytes, two digits each.
+fn each_hex(bytes: &[u8], count: usize) {
+    let mut i: usize = 0;
+    while i < bytes.len() {
+        if i == count {
+            return;
+        }
+        hex_digits(bytes[i]);
+        i += 1;
+    }
+}
+
+// The same with the line's end, or nothing where no byte is to be shown.
+pub fn hex(bytes: &[u8], count: usize) {
+    if count == 0 {
+        return;
+    }
+    each_hex(bytes, count);
     text(b"\n");
 }
