@@ -1,20 +1,18 @@
 -- What a block comes to, row by row.
 use Prim.Native.Nat.{ℕ, _+_, _≤_, _<_}
-use mathlib.Core.Path.{_≡_, refl, sym, ap, _∙_}
-use mathlib.Core.Bool.{true}
+use mathlib.Core.Path.{_≡_, sym, ap, _∙_}
 use mathlib.Core.List.{List, []}
 use native.Mathlib.Omega.{arith}
-use lib.ListN.{length, take}
+use lib.ListN.{length}
 use lib.Seq.{take-all}
 use borrow.Author.Tests.{le-leb, lt-leb}
 use Rattle.laws.specs.Over.{over}
 use Rattle.laws.proofs.Writing.{over-none}
 use Rattle.terms.specs.declared.Refusal.{Refusal}
 use Rattle.terms.specs.declared.Refusal.the-variants.{LogTooLong, RoomTooShort}
-use Rattle.terms.specs.Answers.{longest, roomFor, unless}
+use Rattle.terms.specs.Answers.{longest, roomFor}
 use Rattle.cutting.specs.WholeLog.{writtenList}
 use Rattle.carry.specs.declared.Carry.{Carry}
-use Rattle.carry.specs.declared.Outcome.{Outcome}
 use Rattle.carry.specs.declared.order.Verdict.{Verdict}
 use Rattle.carry.specs.declared.order.Verdict.the-variants.{Fine, Wrong}
 use Rattle.carry.specs.Carries.{blockTaken, cutsIn}

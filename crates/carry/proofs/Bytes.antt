@@ -1,15 +1,14 @@
 -- The rule byte by byte makes the hops: one byte more adds that cut or none, and so does each byte of a block.
-use Prim.Native.Nat.{ℕ, zero, suc, _+_, _≤_, _<_}
-use mathlib.Core.Path.{_≡_, refl, sym, ap, _∙_, subst}
+use Prim.Native.Nat.{ℕ, suc, _+_, _≤_, _<_}
+use mathlib.Core.Path.{_≡_, sym, ap, _∙_, subst}
 use mathlib.Core.Bool.{Bool, true, false, _&&_, _||_}
 use mathlib.Core.List.{List, [], _∷_, _++_, append-assoc}
-use native.Mathlib.Numerals.{add-one}
-use native.Mathlib.Nat.{add-zero, add-suc}
+use native.Mathlib.Nat.{add-zero}
 use native.Mathlib.Omega.{arith}
 use lib.Dec.{leb, eqb}
 use lib.ListN.{length, take, drop, length-append, length-drop}
 use lib.Seq.{drop-append-le, drop-drop, take-append-le, take-at}
-use borrow.Author.Tests.{le-leb, lt-leb, leb-true, leb-false, eq-eqb, eqb-true, eqb-false}
+use borrow.Author.Tests.{le-leb, lt-leb, eqb-true, eqb-false}
 use Rattle.laws.proofs.Cases.{by-lt, by-test}
 use Rattle.rule.specs.Rule.{hop}
 use Rattle.rule.proofs.Hops.{UpTo, past, leap, hop-long, hop-rises, hop-here, hop-on}

@@ -1,9 +1,9 @@
 -- What closing comes to, row by row.
 use Prim.Native.Nat.{ℕ, _≤_, _<_}
-use mathlib.Core.Path.{_≡_, refl, sym, ap, _∙_}
+use mathlib.Core.Path.{_≡_, sym, ap, _∙_}
 use mathlib.Core.List.{List, [], _∷_}
 use native.Mathlib.Omega.{arith}
-use lib.ListN.{length, set, take}
+use lib.ListN.{length, set}
 use lib.Seq.{take-all}
 use borrow.Author.Tests.{le-leb, lt-leb, lt-ltb, le-ltb}
 use Rattle.laws.specs.Over.{over}
@@ -11,12 +11,11 @@ use Rattle.laws.proofs.Cases.{by-lt}
 use Rattle.laws.proofs.Writing.{over-none, over-more}
 use Rattle.terms.specs.declared.Refusal.{Refusal}
 use Rattle.terms.specs.declared.Refusal.the-variants.{RoomTooShort}
-use Rattle.terms.specs.Answers.{unless}
 use Rattle.cutting.specs.WholeLog.{writtenList}
 use Rattle.carry.specs.declared.Carry.{Carry}
 use Rattle.carry.specs.declared.order.Verdict.{Verdict}
 use Rattle.carry.specs.declared.order.Verdict.the-variants.{Fine, Wrong}
-use Rattle.carry.specs.Calls.{refused, wrote, carryRows, closeRows, closingCut, closedCarry, closeOf, closeList}
+use Rattle.carry.specs.Calls.{refused, wrote, carryRows, closingCut, closedCarry, closeOf, closeList}
 use Rattle.carry.proofs.Rows.{refused-by, admitted-by}
 
 pub closing-open : (c : Carry) → 0 < c .since → closingCut c ≡ c .taken ∷ []

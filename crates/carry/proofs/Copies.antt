@@ -1,10 +1,10 @@
 -- Copies of bytes into an array: one that fills it, and two side by side.
 use Prim.Native.Nat.{ℕ, _+_, _≤_}
-use mathlib.Core.Path.{_≡_, refl, sym, ap, ap₂, _∙_}
-use mathlib.Core.List.{List, [], _++_, append-nil}
+use mathlib.Core.Path.{_≡_, sym, ap, ap₂, _∙_}
+use mathlib.Core.List.{List, _++_, append-nil}
 use native.Mathlib.Nat.{zero-add}
 use native.Mathlib.Omega.{arith}
-use lib.ListN.{length, take, drop, drop-of-length-le}
+use lib.ListN.{length, take, drop-of-length-le}
 use lib.Seq.{paste, take-length, length-paste, take-paste}
 
 pub filled : (z s r : List ℕ) → length s ≡ length z → r ≡ paste z 0 s (length s) → r ≡ s

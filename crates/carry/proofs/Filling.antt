@@ -1,17 +1,13 @@
 -- A lent list filled with the cuts that come before a block's end: what is known after each, and what that says where it stops.
-use Prim.Native.Nat.{ℕ, zero, suc, _+_, _-_, _≤_, _<_, min}
+use Prim.Native.Nat.{ℕ, _+_, _-_, _≤_, _<_, min}
 use mathlib.Core.Path.{_≡_, refl, sym, ap, ap₂, _∙_, subst}
-use mathlib.Core.Bool.{Bool, true, false}
 use mathlib.Core.List.{List, [], _∷_, _++_, append-assoc, append-nil}
-use native.Mathlib.Nat.{zero-add}
 use native.Mathlib.Omega.{arith}
-use lib.Dec.{leb}
-use lib.ListN.{length, take, drop, set, length-append, take-append-drop}
+use lib.ListN.{length, drop, set, length-append, take-append-drop}
 use lib.Seq.{length-take-le, take-all, take-at}
 use borrow.Author.Tests.{le-leb, lt-leb}
 use Rattle.laws.specs.Over.{over}
 use Rattle.laws.proofs.Writing.{over-none, over-more, length-over}
-use Rattle.terms.specs.Answers.{unless}
 use Rattle.rule.specs.Rule.{next, hop, lastOr}
 use Rattle.rule.proofs.Next.{next-step}
 use Rattle.rule.proofs.Hops.{UpTo, past, last-is, listed, up-to, hop-rises, next-hop}

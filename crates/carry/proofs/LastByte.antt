@@ -1,25 +1,16 @@
 -- A block's last byte, taken after the others: what the block comes to, by whether the piece ends there.
-use Prim.Native.Nat.{ℕ, zero, suc, _+_, _-_, _≤_, _<_}
-use mathlib.Core.Path.{_≡_, refl, sym, ap, ap₂, _∙_, subst}
-use mathlib.Core.Bool.{Bool, true, false}
-use mathlib.Core.List.{List, [], _∷_, _++_, append-assoc, append-nil}
+use Prim.Native.Nat.{ℕ, suc, _+_, _-_, _<_}
+use mathlib.Core.Path.{_≡_, refl, sym, ap, ap₂, _∙_}
+use mathlib.Core.Bool.{true, false}
+use mathlib.Core.List.{List, [], _∷_, _++_, append-nil}
 use native.Mathlib.Omega.{arith}
-use lib.Dec.{leb}
-use lib.ListN.{length, getD, take, set, length-append}
-use lib.Seq.{take-suc, take-all, take-append-le, length-take-le}
-use borrow.Author.Tests.{le-leb, lt-leb, leb-true, leb-false}
-use Rattle.laws.specs.Over.{over}
+use lib.ListN.{length, getD}
+use lib.Seq.{take-suc, take-all, length-take-le}
 use Rattle.laws.proofs.Cases.{by-test}
-use Rattle.laws.proofs.Writing.{over-more, length-over}
-use Rattle.terms.specs.Answers.{unless}
-use Rattle.terms.specs.declared.Refusal.the-variants.{ListFull}
 use Rattle.signature.specs.Signatures.{signatureOf}
-use Rattle.cutting.specs.WholeLog.{writtenList}
 use Rattle.carry.specs.declared.Carry.{Carry}
-use Rattle.carry.specs.declared.taking.Filled.the-variants.{Full, Reached}
 use Rattle.carry.specs.Carries.{slid, cutsAt, byteTaken, blockTaken, cutsIn}
-use Rattle.carry.specs.Taking.{slidBy, endsPiece, allButLast, filledOf, advancedBy}
-use Rattle.carry.specs.Calls.{refused, wrote, takenOf}
+use Rattle.carry.specs.Taking.{slidBy, endsPiece, allButLast, advancedBy}
 use Rattle.carry.proofs.Parts.{parts, block-taken}
 
 -- a byte after others

@@ -1,12 +1,10 @@
 -- What a block leaves in each part of the carry.
-use Prim.Native.Nat.{ℕ, suc, _+_, _≤_}
+use Prim.Native.Nat.{ℕ, _+_}
 use mathlib.Core.Path.{_≡_, refl, sym, ap, _∙_}
-use mathlib.Core.Bool.{Bool}
-use mathlib.Core.List.{List, [], _∷_, _++_, append-nil}
+use mathlib.Core.List.{List, [], _∷_, append-nil}
 use native.Mathlib.Nat.{add-zero}
 use native.Mathlib.Omega.{arith}
 use lib.ListN.{length, drop, length-append, length-drop}
-use lib.Seq.{drop-drop}
 use Rattle.signature.specs.Signatures.{signatureOf}
 use Rattle.carry.specs.declared.Carry.{Carry}
 use Rattle.carry.specs.Carries.{slid, byteTaken, blockTaken}

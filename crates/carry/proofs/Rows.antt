@@ -1,13 +1,12 @@
 -- The rows that judge every carry: one verdict decides what each call makes of them.
 use Prim.Native.Nat.{ℕ}
 use mathlib.Core.Path.{_≡_, sym, ap, _∙_}
-use mathlib.Core.Bool.{Bool, true, false, not}
+use mathlib.Core.Bool.{true, not}
 use native.Mathlib.Omega.{arith}
 use Rattle.laws.proofs.Cases.{by-test}
 use Rattle.terms.specs.declared.Refusal.{Refusal}
 use Rattle.terms.specs.declared.Refusal.the-variants.{SettingsOutOfRange, CarryNotInOrder}
 use Rattle.terms.specs.Settings.{inRange}
-use Rattle.terms.specs.Answers.{unless}
 use Rattle.carry.specs.declared.Carry.{Carry}
 use Rattle.carry.specs.declared.order.Verdict.{Verdict}
 use Rattle.carry.specs.declared.order.Verdict.the-variants.{Fine, Wrong}

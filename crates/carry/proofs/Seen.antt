@@ -1,9 +1,8 @@
 -- The marks that a carry shows in a block, at offsets past the bytes taken: how the rule moves over them.
-use Prim.Native.Nat.{ℕ, zero, suc, _+_, _-_, _≤_, _<_, min, max}
+use Prim.Native.Nat.{ℕ, suc, _+_, _-_, _≤_, _<_, min, max}
 use mathlib.Core.Path.{_≡_, refl, sym, ap, _∙_, subst}
 use mathlib.Core.Bool.{Bool, true, false, _&&_}
 use mathlib.Core.List.{List, _++_}
-use native.Mathlib.Nat.{add-zero}
 use native.Mathlib.Omega.{arith}
 use lib.Dec.{ltb}
 use lib.ListN.{length, take, drop}
@@ -12,7 +11,7 @@ use Rattle.laws.proofs.Cases.{by-lt, both-true}
 use Rattle.terms.specs.Settings.{inRange}
 use Rattle.terms.specs.Answers.{longest}
 use Rattle.terms.proofs.Ranges.{Ranges, ranges}
-use Rattle.rule.specs.Rule.{firstMark, next, hop, Unmarked, NextCut, first-mark, forced, log-ends}
+use Rattle.rule.specs.Rule.{next, hop, Unmarked, NextCut, first-mark, forced, log-ends}
 use Rattle.rule.proofs.First.{First, at-mark, none-there, first-is}
 use Rattle.rule.proofs.Next.{next-only, next-moves}
 use Rattle.signature.specs.Signatures.{signatureOf}

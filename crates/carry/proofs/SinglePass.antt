@@ -1,20 +1,20 @@
 -- The single pass: whatever the blocks, fresh, a call a block and close write the cuts of the joined log.
-use Prim.Native.Nat.{ℕ, zero, suc, _+_, _≤_, _<_}
-use mathlib.Core.Path.{_≡_, refl, sym, ap, ap₂, _∙_, subst}
-use mathlib.Core.Bool.{Bool, true, false, _&&_, not}
+use Prim.Native.Nat.{ℕ, _+_, _≤_}
+use mathlib.Core.Path.{_≡_, sym, ap, _∙_, subst}
+use mathlib.Core.Bool.{true, not}
 use mathlib.Core.List.{List, [], _∷_, _++_, append-assoc}
 use native.Mathlib.Nat.{add-zero}
 use native.Mathlib.Omega.{arith}
-use lib.Dec.{leb, ltb}
+use lib.Dec.{leb}
 use lib.ListN.{length, take, length-append}
 use lib.Seq.{take-all, take-append-seam}
-use borrow.Author.Tests.{le-leb, leb-true, lt-ltb, le-ltb}
+use borrow.Author.Tests.{le-leb}
 use Rattle.laws.specs.Over.{over}
 use Rattle.laws.proofs.Cases.{by-lt}
 use Rattle.terms.specs.declared.Settings.{Settings}
 use Rattle.terms.specs.Settings.{inRange}
 use Rattle.terms.proofs.Ranges.{ranges}
-use Rattle.terms.specs.Answers.{answerCount, longest, roomFor, unless}
+use Rattle.terms.specs.Answers.{answerCount, longest, roomFor}
 use Rattle.rule.specs.Rule.{hop, closing}
 use Rattle.rule.proofs.Hops.{UpTo, cuts-by-hops, still-open, already}
 use Rattle.cutting.specs.Marks.{mark, cutList}

@@ -1,17 +1,16 @@
 -- What taking a block answers and leaves in the lent list, by what filling it came to and whether a piece ends with the block.
-use Prim.Native.Nat.{ℕ, suc, _+_, _-_, _≤_, _<_}
-use mathlib.Core.Path.{_≡_, refl, sym, ap, ap₂, _∙_, subst}
-use mathlib.Core.Bool.{Bool, true, false}
+use Prim.Native.Nat.{ℕ, _+_, _≤_, _<_}
+use mathlib.Core.Path.{_≡_, sym, ap, ap₂, _∙_}
+use mathlib.Core.Bool.{true, false}
 use mathlib.Core.List.{List, [], _∷_, _++_}
 use native.Mathlib.Omega.{arith}
 use lib.Dec.{leb}
-use lib.ListN.{length, take, set, length-append}
+use lib.ListN.{length, set, length-append}
 use lib.Seq.{take-all, take-append-le}
 use borrow.Author.Tests.{le-leb, lt-leb, leb-true, leb-false}
 use Rattle.laws.specs.Over.{over}
 use Rattle.laws.proofs.Cases.{by-test}
 use Rattle.laws.proofs.Writing.{over-more, length-over}
-use Rattle.terms.specs.Answers.{unless}
 use Rattle.terms.specs.declared.Refusal.the-variants.{ListFull}
 use Rattle.signature.specs.Signatures.{signatureOf}
 use Rattle.cutting.specs.WholeLog.{writtenList}

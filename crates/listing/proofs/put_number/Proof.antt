@@ -1,12 +1,10 @@
 -- `listing::put_number` meets its contract: a 64-bit number has at most 20 digits.
 use borrow.Author.Needs.{needs}
-use denote.Ref.{now}
-use Prim.Native.Nat.{ℕ, _+_, _-_, _^_, _≤_, _<_}
-use mathlib.Core.Path.{_≡_}
+use Prim.Native.Nat.{ℕ, _-_, _^_, _≤_, _<_}
 use native.Mathlib.Nat.{pow-le-pow-right}
 use native.Mathlib.Omega.{arith}
-use lib.Dec.{lit<, lit≤}
-use lib.ListN.{length, take, drop, length-take, length-drop}
+use lib.Dec.{lit<}
+use lib.ListN.{length-take, length-drop}
 use Rattle.io.specs.Digits.{Fewest}
 use Rattle.laws.proofs.Cases.{by-lt}
 use Rattle.listing.proofs.put_number.Statement.{statement}

@@ -1,6 +1,6 @@
 -- `carry::taking::copy_in` meets its contract. The loop's invariant: the first i bytes of src stand in dst from place at on.
 use borrow.Author.Needs.{needs}
-use Prim.Native.Nat.{ℕ, suc, _+_, _-_, _≤_, _<_}
+use Prim.Native.Nat.{ℕ, _+_, _-_, _≤_, _<_}
 use mathlib.Core.Path.{_≡_, refl, sym, ap, _∙_}
 use mathlib.Core.List.{List}
 use native.Mathlib.Nat.{le-antisymm}

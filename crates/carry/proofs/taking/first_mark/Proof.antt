@@ -4,7 +4,6 @@ use Prim.Native.Nat.{ℕ, _≤_}
 use mathlib.Core.Path.{_≡_, _∙_}
 use mathlib.Core.Bool.{true}
 use native.Mathlib.Omega.{arith}
-use lib.ListN.{length}
 use Rattle.terms.specs.declared.Settings.{Settings}
 use Rattle.terms.specs.Settings.{inRange}
 use Rattle.terms.proofs.Ranges.{ranges}
