@@ -1,0 +1,4 @@
+pub mod Marking
+pub mod Marker
+pub mod Walking
+pub mod Reading

@@ -1,0 +1,89 @@
+-- Reading true records: the offsets of a slow record, read as marks up to the marker, are the segment's cuts; and over all bays the walk's list is the log's.
+use Prim.Native.Nat.{ℕ, zero, suc, _+_, _-_, _*_, _/_, _≤_, _<_, min}
+use mathlib.Core.Path.{_≡_, refl, sym, ap, _∙_, subst}
+use mathlib.Core.Bool.{Bool, true, false, _&&_}
+use mathlib.Core.List.{List, [], _∷_, _++_, append-assoc}
+use native.Mathlib.Nat.{le-trans}
+use native.Mathlib.Omega.{arith}
+use lib.Dec.{leb, eqb}
+use borrow.Author.Tests.{le-leb, lt-leb, leb-true, leb-false, eq-eqb, ne-eqb}
+use Rattle.laws.proofs.Cases.{by-lt, by-test}
+use Rattle.rule.specs.Rule.{hop, lastOr, closing, cuts, cutsFrom, cutsUpTo, Unmarked, NextCut, log-ends}
+use Rattle.rule.proofs.Next.{next-only}
+use Rattle.rule.proofs.Hops.{UpTo, past, leap, stands, hop-rises, hop-long, next-hop, hop-on, cuts-by-hops}
+use Rattle.board.specs.Segments.{segments, segmentStart, segmentEnd}
+use Rattle.board.specs.Records.{Record, slowRecord, recordAfter, isMarker, prepend, segmentRecord}
+use Rattle.board.specs.Walk.{forcedUpTo, readAsMarks, bayCuts, baysCuts, walk}
+use Rattle.board.proofs.Marking.{Marks, none-left, then-mark, marks-in}
+use Rattle.board.proofs.Marker.{marked-not}
+use Rattle.board.proofs.Walking.{Walked, joined, to-last, idle, one-cut, one-pass, forced-walk, forced-none, read-mark, up-to-moved}
+
+pub both : (s t : Bool) → s && t ≡ true → (s ≡ true) × (t ≡ true)
+both true t e = (refl, e)
+both false t e = absurd (marked-not e refl)
+
+-- what the marker test says
+pub piece : (lo hi a b : ℕ) → isMarker lo hi a b ≡ true → (lo ≤ b - a) × (b - a ≤ hi - lo)
+unfolding isMarker
+piece lo hi a b t = let s = both _ _ t in (leb-true _ _ (s .0), leb-true _ _ (s .1))
+
+module _ (mark : ℕ → Bool) (lo hi e : ℕ) where
+  at-marker : (a b : ℕ) (marks : List ℕ) → isMarker lo hi a b ≡ true
+      → recordAfter mark lo hi e a (b ∷ marks) ≡ record { marker = b; offsets = b ∷ cutsUpTo mark lo hi e b }
+  unfolding recordAfter
+  at-marker a b marks t = rw (t, recordAfter)
+
+  no-marker : (a b : ℕ) (marks : List ℕ) → isMarker lo hi a b ≡ false
+      → recordAfter mark lo hi e a (b ∷ marks) ≡ prepend b (recordAfter mark lo hi e b marks)
+  unfolding recordAfter
+  no-marker a b marks t = rw (t, recordAfter)
+
+  -- the marker recorded after the mark a is past a
+  pub marker-later : {a : ℕ} {marks : List ℕ} (p : ℕ) → 0 < p → p ≤ a → Marks mark e a marks → eqb p (recordAfter mark lo hi e a marks .marker) ≡ false
+  unfolding recordAfter prepend
+  marker-later p h below (none-left u) = ne-eqb p 0 (λ z. omega arith)
+  marker-later {a} p h below (then-mark b {l = marks} above inside m u r) =
+      by-test (isMarker lo hi a b)
+      (λ t. rw (at-marker a b marks t) (ne-eqb p b (λ z. omega arith)))
+      (λ t. rw (no-marker a b marks t) (marker-later p h (omega arith) r))
+
+-- the marker, cut with nothing forced before it: all offsets after it are cuts
+read-marker : (lo hi c b : ℕ) (offsets : List ℕ) → forcedUpTo hi (b - 1) c ≡ [] → c + lo ≤ b → readAsMarks lo hi b c (b ∷ offsets) ≡ b ∷ offsets
+unfolding readAsMarks lastOr
+read-marker lo hi c b offsets none far = rw (none, le-leb (c + lo) b far, eq-eqb b b refl, readAsMarks)
+
+module _ (mark : ℕ → Bool) (lo hi : ℕ) (positive : 0 < lo) (order : lo ≤ hi) (e : ℕ) where
+  -- what a walk from the cut d makes of a record
+  Read : ℕ → Record → Type 0
+  Read d r = (m : ℕ) × Walked mark lo hi d e (readAsMarks lo hi (r .marker) d (r .offsets)) m
+
+  -- from a cut at the mark a, or less than minimum before it
+  read-after : {a : ℕ} {marks : List ℕ} → a ≤ e → Marks mark e a marks → (c : ℕ) → c ≤ a → a < c + lo → Read c (recordAfter mark lo hi e a marks)
+  unfolding Read recordAfter readAsMarks prepend
+  read-after inside (none-left {a = a} u) c below near = (c, idle mark lo hi positive order c e (omega arith) (λ q x y. u q (omega arith) y))
+  read-after {a} inside (then-mark b {l = marks} above within marked u r) c below near =
+      by-test (isMarker lo hi a b)
+      (λ t. rw (at-marker mark lo hi e a b marks t)
+      (let far = piece lo hi a b t in
+      let none : forcedUpTo hi (b - 1) c ≡ [] = forced-none mark lo hi positive order c (b - 1) (omega arith) in
+      let w = joined mark lo hi positive order
+          (one-cut mark lo hi positive order c b (omega arith) (omega arith) marked (λ q x y. u q (omega arith) y))
+          (one-pass mark lo hi positive order b e within) in
+      (lastOr b (cutsUpTo mark lo hi e b), rw (read-marker lo hi c b (cutsUpTo mark lo hi e b) none (omega arith)) w)))
+      (λ t. rw (no-marker mark lo hi e a b marks t)
+      (let after = recordAfter mark lo hi e b marks in
+      read-mark mark lo hi positive order (after .marker) a e c b (after .offsets) below above within marked (λ q x y. absurd (omega arith)) u
+      (marker-later mark lo hi e b (omega arith) (omega arith) r)
+      (λ d x y. read-after within r d x y)))
+
+  -- a whole segment above a
+  read-slow : {a : ℕ} {marks : List ℕ} → Marks mark e a marks → (c : ℕ) → c ≤ a → a ≤ e → Unmarked mark (c + lo) (suc a)
+      → Read c (slowRecord mark lo hi e marks)
+  unfolding Read slowRecord readAsMarks prepend
+  read-slow (none-left {a = a} u) c below inside clear =
+      (c, idle mark lo hi positive order c e (omega arith) (λ q x y. by-lt a q (λ h. u q h y) (λ h. clear q x (omega arith))))
+  read-slow {a} (then-mark b {l = marks} above within marked u r) c below inside clear =
+      let after = recordAfter mark lo hi e b marks in
+      read-mark mark lo hi positive order (after .marker) a e c b (after .offsets) below above within marked clear u
+      (marker-later mark lo hi e b (omega arith) (omega arith) r)
+      (λ d x y. read-after within r d x y)

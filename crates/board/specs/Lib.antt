@@ -1,0 +1,4 @@
+pub mod Segments
+pub mod Records
+pub mod Bays
+pub mod Walk

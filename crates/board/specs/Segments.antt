@@ -1,0 +1,20 @@
+-- Segments of a log of n bytes, and the board's shape: document 01, "Segments and the board".
+use Prim.Native.Nat.{ℕ, _+_, _-_, _*_, _/_, min}
+use mathlib.Core.Bool.{Bool, _&&_}
+use lib.Dec.{leb}
+
+-- a segment size is 64 to 16,777,216
+unfoldable pub sizeInRange : ℕ → Bool
+sizeInRange size = leb 64 size && leb size 16_777_216
+
+-- there are n/S segments, rounded up
+unfoldable pub segments : ℕ → ℕ → ℕ
+segments size n = (n + (size - 1)) / size
+
+-- segment i covers the offsets above this one
+unfoldable pub segmentStart : ℕ → ℕ → ℕ
+segmentStart size i = i * size
+
+-- and up to this one: the smaller of (i + 1) * S and n
+unfoldable pub segmentEnd : ℕ → ℕ → ℕ → ℕ
+segmentEnd size n i = min (i * size + size) n

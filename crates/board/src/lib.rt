@@ -1,0 +1,1 @@
+// Segments, the board and merging.
