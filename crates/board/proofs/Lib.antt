@@ -1,4 +1,5 @@
 pub mod Marking
 pub mod Marker
 pub mod Walking
+pub mod Ranges
 pub mod Reading

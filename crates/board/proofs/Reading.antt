@@ -15,6 +15,7 @@ use Rattle.board.specs.Segments.{segments, segmentStart, segmentEnd}
 use Rattle.board.specs.Records.{Record, slowRecord, recordAfter, isMarker, prepend, segmentRecord}
 use Rattle.board.specs.Walk.{forcedUpTo, readAsMarks, bayCuts, baysCuts, walk}
 use Rattle.board.proofs.Marking.{Marks, none-left, then-mark, marks-in}
+use Rattle.board.proofs.Ranges.{reach, from-reach, to-reach, reach-none, reach-all, spans}
 use Rattle.board.proofs.Marker.{marked-not}
 use Rattle.board.proofs.Walking.{Walked, joined, to-last, idle, one-cut, one-pass, forced-walk, forced-none, read-mark, up-to-moved}
 
@@ -87,3 +88,56 @@ module _ (mark : ℕ → Bool) (lo hi : ℕ) (positive : 0 < lo) (order : lo ≤
       read-mark mark lo hi positive order (after .marker) a e c b (after .offsets) below above within marked clear u
       (marker-later mark lo hi e b (omega arith) (omega arith) r)
       (λ d x y. read-after within r d x y)
+
+-- no mark up to n, and no cut forced there: the next hop is past n
+past-end : (mark : ℕ → Bool) (lo hi : ℕ) → lo ≤ hi → (n m : ℕ) → n < m + hi → Unmarked mark (m + lo) (suc n) → n < hop mark lo hi m
+past-end mark lo hi order n m near clear =
+    let short : min (hop mark lo hi m) n ≡ n = sym (next-hop mark lo hi n m) ∙ next-only mark lo hi n m (log-ends near clear) in
+    by-lt n (m + lo)
+    (λ h. omega (arith, hop-long mark lo hi m order))
+    (λ h. hop-on mark lo hi m n (omega arith) near (clear n h (omega arith)))
+
+-- over all bays
+module _ (mark : ℕ → Bool) (lo hi : ℕ) (positive : 0 < lo) (order : lo ≤ hi) (size n : ℕ) (sized : 0 < size) where
+  -- from cut c, with nothing left to cut before segment i, through its bay
+  read-bay : (i c : ℕ) → i < segments size n → c ≤ reach size n i → Unmarked mark (c + lo) (suc (reach size n i))
+      → (m : ℕ) × Walked mark lo hi c (reach size n (suc i)) (bayCuts lo hi i c (segmentRecord mark lo hi size n i)) m
+  unfolding bayCuts segmentRecord Read
+  read-bay zero c h below clear =
+      let start : c ≡ 0 = omega (arith, reach-none size n sized) in
+      rw (start, to-reach size n sized 0) (_, one-pass mark lo hi positive order 0 (reach size n 1) (omega arith))
+  read-bay (suc i) c h below clear =
+      let a : ℕ = segmentStart size (suc i) in
+      let e : ℕ = segmentEnd size n (suc i) in
+      let begins : a ≡ reach size n (suc i) = from-reach size n sized (suc i) h in
+      let within : a < e = spans size n sized (suc i) h .0 in
+      rw (← to-reach size n sized (suc i))
+      (read-slow mark lo hi positive order e (marks-in mark e a (omega arith)) c (omega arith) (omega arith) (rw begins clear))
+
+  -- every bay holds its segment's record
+  module _ (bay : ℕ → Record) (true-board : (i : ℕ) → i < segments size n → bay i ≡ segmentRecord mark lo hi size n i) where
+    read-bays : (k i c : ℕ) → i + k ≡ segments size n → c ≤ reach size n i → Unmarked mark (c + lo) (suc (reach size n i))
+        → Walked mark lo hi c n (baysCuts lo hi bay k i c) (lastOr c (baysCuts lo hi bay k i c))
+    unfolding baysCuts lastOr
+    read-bays zero i c count below clear =
+        let all : reach size n i ≡ n = ap (reach size n) (omega arith) ∙ reach-all size n sized in
+        idle mark lo hi positive order c n (omega arith) (rw (← all) clear)
+    read-bays (suc k) i c count below clear =
+        let here : i < segments size n = omega arith in
+        let w = to-last mark lo hi positive order (subst (λ r. (m : ℕ) × Walked mark lo hi c (reach size n (suc i)) (bayCuts lo hi i c r) m) (sym (true-board i here))
+            (read-bay i c here below clear) .1) in
+        to-last mark lo hi positive order
+        (joined mark lo hi positive order w (read-bays k (suc i) _ (omega arith) (w .reached) (w .clear)))
+
+    -- the walk's list is the log's
+    pub merged : walk lo hi bay (segments size n) n ≡ cuts mark lo hi n
+    unfolding walk
+    merged =
+        let w = read-bays (segments size n) 0 0 (omega arith) (omega arith) (λ q x y. absurd (omega (arith, reach-none size n sized))) in
+        let made : List ℕ = baysCuts lo hi bay (segments size n) 0 0 in
+        let f = forced-walk mark lo hi positive order (lastOr 0 made) n (w .reached) (w .clear) in
+        let rest : List ℕ = forcedUpTo hi n (lastOr 0 made) in
+        let whole = joined mark lo hi positive order w (f .0) in
+        let ahead = past-end mark lo hi order n (lastOr (lastOr 0 made) rest) (f .1) (f .0 .clear) in
+        let r = up-to-moved (hop mark lo hi) (hop-rises mark lo hi positive order) _ n (whole .reached) ahead (whole .hopped) in
+        sym (cuts-by-hops mark lo hi positive order n r ∙ append-assoc made rest _)
