@@ -3,3 +3,4 @@ pub mod Marker
 pub mod Walking
 pub mod Ranges
 pub mod Reading
+pub mod Accepted

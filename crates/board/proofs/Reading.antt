@@ -29,12 +29,12 @@ unfolding isMarker
 piece lo hi a b t = let s = both _ _ t in (leb-true _ _ (s .0), leb-true _ _ (s .1))
 
 module _ (mark : ℕ → Bool) (lo hi e : ℕ) where
-  at-marker : (a b : ℕ) (marks : List ℕ) → isMarker lo hi a b ≡ true
+  pub at-marker : (a b : ℕ) (marks : List ℕ) → isMarker lo hi a b ≡ true
       → recordAfter mark lo hi e a (b ∷ marks) ≡ record { marker = b; offsets = b ∷ cutsUpTo mark lo hi e b }
   unfolding recordAfter
   at-marker a b marks t = rw (t, recordAfter)
 
-  no-marker : (a b : ℕ) (marks : List ℕ) → isMarker lo hi a b ≡ false
+  pub no-marker : (a b : ℕ) (marks : List ℕ) → isMarker lo hi a b ≡ false
       → recordAfter mark lo hi e a (b ∷ marks) ≡ prepend b (recordAfter mark lo hi e b marks)
   unfolding recordAfter
   no-marker a b marks t = rw (t, recordAfter)
@@ -68,8 +68,8 @@ module _ (mark : ℕ → Bool) (lo hi : ℕ) (positive : 0 < lo) (order : lo ≤
       (let far = piece lo hi a b t in
       let none : forcedUpTo hi (b - 1) c ≡ [] = forced-none mark lo hi positive order c (b - 1) (omega arith) in
       let w = joined mark lo hi positive order
-          (one-cut mark lo hi positive order c b (omega arith) (omega arith) marked (λ q x y. u q (omega arith) y))
-          (one-pass mark lo hi positive order b e within) in
+      (one-cut mark lo hi positive order c b (omega arith) (omega arith) marked (λ q x y. u q (omega arith) y))
+      (one-pass mark lo hi positive order b e within) in
       (lastOr b (cutsUpTo mark lo hi e b), rw (read-marker lo hi c b (cutsUpTo mark lo hi e b) none (omega arith)) w)))
       (λ t. rw (no-marker mark lo hi e a b marks t)
       (let after = recordAfter mark lo hi e b marks in
@@ -125,7 +125,7 @@ module _ (mark : ℕ → Bool) (lo hi : ℕ) (positive : 0 < lo) (order : lo ≤
     read-bays (suc k) i c count below clear =
         let here : i < segments size n = omega arith in
         let w = to-last mark lo hi positive order (subst (λ r. (m : ℕ) × Walked mark lo hi c (reach size n (suc i)) (bayCuts lo hi i c r) m) (sym (true-board i here))
-            (read-bay i c here below clear) .1) in
+        (read-bay i c here below clear) .1) in
         to-last mark lo hi positive order
         (joined mark lo hi positive order w (read-bays k (suc i) _ (omega arith) (w .reached) (w .clear)))
 

@@ -116,7 +116,8 @@ module _ (mark : ℕ → Bool) (lo hi : ℕ) (positive : 0 < lo) (order : lo ≤
         by-lt p (m + lo)
         (λ close. let w = rest m (omega arith) close in
         (w .0, rw (lt-leb (m + lo) p close, readAsMarks) (joined (f .0) (w .1))))
-        (λ far. let w = rest p (omega arith) (omega arith) in
-        (w .0,
-        rw (le-leb (m + lo) p far, other, readAsMarks)
-        (joined (f .0) (joined (one-cut m p far (omega arith) marked (λ q x y. f .0 .clear q x (omega arith))) (w .1)))))
+        (λ far. let w = rest p (omega arith) (omega arith) in (
+          w .0,
+          rw (le-leb (m + lo) p far, other, readAsMarks)
+              (joined (f .0) (joined (one-cut m p far (omega arith) marked (λ q x y. f .0 .clear q x (omega arith))) (w .1))),
+        ))

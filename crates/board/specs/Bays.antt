@@ -1,11 +1,12 @@
 -- A bay read back: when it is done, and when it is malformed. Document 01, "Segments and the board".
 use Prim.Native.Nat.{ℕ, zero, suc, _+_, _-_, _*_}
 use mathlib.Core.Bool.{Bool, true, false, _&&_, _||_, not}
-use mathlib.Core.List.{List, [], _∷_}
+use mathlib.Core.Path.{_≡_}
+use mathlib.Core.List.{List, [], _∷_, _++_}
 use lib.Dec.{leb, ltb, eqb}
 use lib.ListN.{length, getD, take, drop}
 use Rattle.board.specs.Segments.{segmentStart, segmentEnd}
-use Rattle.board.specs.Records.{Record}
+use Rattle.board.specs.Records.{Record, entries}
 
 -- bay i of a board of bays of so many numbers
 unfoldable pub bayOf : ℕ → List ℕ → ℕ → List ℕ
@@ -57,3 +58,8 @@ isSound minimum maximum size n i bay =
     leb (offsetCount bay) (length bay - 2)
     && (risesWithin (segmentStart size i) (segmentEnd size n i) (r .offsets)
     && markerFits minimum maximum i r)
+
+-- a bay that begins with a record
+pub record Holds (bay : List ℕ) (r : Record) : Type 0 where
+  pub rest : List ℕ
+  pub begins : bay ≡ entries r ++ rest

@@ -2,3 +2,5 @@ pub mod Segments
 pub mod Records
 pub mod Bays
 pub mod Walk
+pub mod Merging
+pub mod Recording

@@ -38,9 +38,9 @@ module _ (mark : ℕ → Bool) (minimum maximum e : ℕ) where
   unfoldable pub recordAfter : ℕ → List ℕ → Record
   recordAfter a [] = record { marker = 0; offsets = [] }
   recordAfter a (b ∷ marks) =
-      elim (isMarker minimum maximum a b)
-      [ true ↦ record { marker = b; offsets = b ∷ cutsUpTo mark minimum maximum e b }
-      | false ↦ prepend b (recordAfter b marks)
+      elim (isMarker minimum maximum a b) [
+        | true ↦ record { marker = b; offsets = b ∷ cutsUpTo mark minimum maximum e b }
+        | false ↦ prepend b (recordAfter b marks)
       ]
 
   -- the first mark of a segment has no neighbour in it

@@ -18,9 +18,9 @@ readAsMarks minimum maximum marker c (p ∷ offsets) =
     let below = forcedUpTo maximum (p - 1) c in
     let last = lastOr c below in
     below
-    ++ elim (leb (last + minimum) p)
-    [ true ↦ p ∷ elim (eqb p marker) [ true ↦ offsets | false ↦ readAsMarks minimum maximum marker p offsets ]
-    | false ↦ readAsMarks minimum maximum marker last offsets
+    ++ elim (leb (last + minimum) p) [
+      | true ↦ p ∷ elim (eqb p marker) [ true ↦ offsets | false ↦ readAsMarks minimum maximum marker p offsets ]
+      | false ↦ readAsMarks minimum maximum marker last offsets
     ]
 
 -- the cuts made in bay i from the cut c on: segment 0's offsets are cuts
