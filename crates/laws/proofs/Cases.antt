@@ -1,8 +1,9 @@
 -- Case splits as terms: of two numbers, and of a test with its outcome in hand.
 use mathlib.Core.Path.{_≡_, refl}
-use mathlib.Core.Bool.{Bool, true, false}
+use mathlib.Core.Bool.{Bool, true, false, _&&_}
 use Prim.Native.Nat.{ℕ, _≤_, _<_}
-use lib.Dec.{leb, ltb}
+use lib.Dec.{ltb}
+use native.Mathlib.Omega.{arith}
 use borrow.Author.Tests.{ltb-true, ltb-false}
 
 pub by-test {ℓ} : {C : Type ℓ} (t : Bool) → (t ≡ true → C) → (t ≡ false → C) → C
@@ -11,3 +12,10 @@ by-test false f g = g refl
 
 pub by-lt {ℓ} : {C : Type ℓ} (a b : ℕ) → (a < b → C) → (b ≤ a → C) → C
 by-lt a b f g = by-test (ltb a b) (λ e. f (ltb-true a b e)) (λ e. g (ltb-false a b e))
+
+-- both halves of a test that passed
+pub both-true : {a b : Bool} → a && b ≡ true → (a ≡ true) × (b ≡ true)
+both-true {a} {b} e = by-test a (λ h. (h, rw h at e)) (λ h. absurd (never (rw h at e)))
+  where
+    never : false ≡ true → ⊥
+    never p = let z : _≡_ {A = ℕ} 0 1 = cc in omega arith

@@ -1,1 +1,3 @@
+pub mod Last
 pub mod Over
+pub mod Tables

@@ -3,6 +3,7 @@ use Prim.Native.Nat.{ℕ, _-_, _^_}
 use mathlib.Core.Bool.{Bool, true, false, _&&_, _||_}
 use mathlib.Core.List.{List, [], _∷_}
 use lib.Dec.{leb, ltb}
+use Rattle.laws.specs.Last.{lastOr}
 
 -- a step that rises, is at most maximum, and is at least minimum unless it is the last
 unfoldable pub stepFits : (minimum maximum : ℕ) → (last : Bool) → (before entry : ℕ) → Bool
@@ -23,10 +24,6 @@ stepsFit minimum maximum before (entry ∷ rest) =
 -- being allowed from 1, and ending at 2^40 or below
 unfoldable pub wellFormed : (minimum maximum : ℕ) → List ℕ → Bool
 wellFormed minimum maximum list = stepsFit minimum maximum 0 list
-
-unfoldable pub lastOr : ℕ → List ℕ → ℕ
-lastOr before [] = before
-lastOr before (entry ∷ rest) = lastOr entry rest
 
 -- the length of a list's log: its last entry, or 0
 unfoldable pub lengthOf : List ℕ → ℕ

@@ -4,6 +4,7 @@ use mathlib.Core.Bool.{Bool, true, false}
 use mathlib.Core.List.{List, [], _∷_}
 use mathlib.Core.Path.{_≡_}
 use lib.Dec.{leb, ltb}
+unfoldable pub use Rattle.laws.specs.Last.{lastOr}
 
 -- the first of the k offsets from p on that is a mark; other where none is
 unfoldable pub firstMark : (ℕ → Bool) → ℕ → ℕ → ℕ → ℕ
@@ -49,11 +50,6 @@ hop mark minimum maximum c = firstMark mark (suc maximum - minimum) (c + minimum
 unfoldable pub hops : (ℕ → ℕ) → ℕ → ℕ → ℕ → List ℕ
 hops hop e zero c = []
 hops hop e (suc fuel) c = elim (leb (hop c) e) [ true ↦ hop c ∷ hops hop e fuel (hop c) | false ↦ [] ]
-
--- the last entry of a list, or c where it has none
-unfoldable pub lastOr : ℕ → List ℕ → ℕ
-lastOr c [] = c
-lastOr c (x ∷ xs) = lastOr x xs
 
 -- the cuts after the cut c up to e
 unfoldable pub cutsUpTo : (ℕ → Bool) → ℕ → ℕ → ℕ → ℕ → List ℕ

@@ -1,0 +1,4 @@
+pub mod Xor
+pub mod Remainders
+pub mod Windows
+pub mod Powers

@@ -1,0 +1,134 @@
+-- The signature of a run of bytes when a byte enters, and when a window slides: over any degree d from 8 on, any low part and
+-- any length of the window. At the end the window of 48 bytes, in the form that a search through a log cites.
+use mathlib.Core.Path.{_≡_, refl, sym, ap, ap₂, subst, _∙_}
+use mathlib.Core.List.{List, [], _∷_, _++_}
+use Prim.Native.Nat.{ℕ, zero, suc, _+_, _-_, _*_, _/_, _%_, _^_, _≤_, _<_}
+use native.Mathlib.Nat.{mul-suc, mul-comm, le-of-lt, mod-lt, lt-of-lt-of-le, not-suc-le-zero}
+use native.Mathlib.Numerals.{add-one}
+use native.Mathlib.Omega.{arith}
+use lib.Arith.{digits-lt}
+use lib.Dec.{lit<, lit≤}
+use lib.Pow.{pow-pos, pow-add, pow-mono, shl-exact}
+use lib.Bits.{bitAnd, bitOr, bitXor, and-mask, or-shifted, xor-comm, xor-shifted}
+use lib.ListN.{length, getD, take, drop, length-append, length-drop}
+use lib.Seq.{take-suc, drop-cons, getD-drop, length-take-le}
+use Rattle.signature.specs.Polynomials.{rem}
+use Rattle.signature.specs.Signatures.{number, signature, grown, rolled, degree, lowPart, signatureOf, window}
+use Rattle.signature.proofs.Xor.{xor-cancel}
+use Rattle.signature.proofs.Remainders.{rem-lt, rem-small, rem-xor, rem-shift, rem-by-top}
+
+abbrev pub Bytes : List ℕ → Type 0
+Bytes bs = (j : ℕ) → getD bs j 0 < 2 ^ 8
+
+byte-power : (n : ℕ) → 2 ^ (8 * suc n) ≡ 2 ^ (8 * n) * 2 ^ 8
+byte-power n = ap (λ (k : ℕ). 2 ^ k) (mul-suc 8 n) ∙ pow-add 2 (8 * n) 8
+
+pub number-lt : (bs : List ℕ) → Bytes bs → number bs < 2 ^ (8 * length bs)
+unfolding number
+number-lt [] h = lit< tt
+number-lt (b ∷ bs) h =
+    subst (λ (x : ℕ). b * 2 ^ (8 * length bs) + number bs < x) (sym (byte-power (length bs) ∙ mul-comm (2 ^ (8 * length bs)) (2 ^ 8)))
+    (digits-lt (h 0) (number-lt bs (λ j. h (suc j))))
+
+number-snoc : (bs : List ℕ) (e : ℕ) → number (bs ++ e ∷ []) ≡ number bs * 2 ^ 8 + e
+unfolding number
+number-snoc [] e = omega arith
+number-snoc (b ∷ bs) e =
+    let longer : 2 ^ (8 * length (bs ++ e ∷ [])) ≡ 2 ^ (8 * length bs) * 2 ^ 8 =
+    ap (λ (n : ℕ). 2 ^ (8 * n)) (length-append bs (e ∷ []) ∙ add-one (length bs)) ∙ byte-power (length bs) in
+    ap₂ (λ (x y : ℕ). b * x + y) longer (number-snoc bs e) ∙ omega arith
+
+bytes-drop : (n : ℕ) (bs : List ℕ) → Bytes bs → Bytes (drop n bs)
+bytes-drop n bs h j = rw getD-drop (h (n + j))
+
+bytes-take : (n : ℕ) (bs : List ℕ) → Bytes bs → Bytes (take n bs)
+bytes-take zero bs h j = lit< tt
+bytes-take (suc n) [] h j = lit< tt
+bytes-take (suc n) (b ∷ bs) h zero = h 0
+bytes-take (suc n) (b ∷ bs) h (suc j) = bytes-take n bs (λ i. h (suc i)) j
+
+regroup : (b p n e : ℕ) → (b * p + n) * 2 ^ 8 + e ≡ b * (p * 2 ^ 8) + (n * 2 ^ 8 + e)
+regroup b p n e = omega arith
+
+module _ (d l : ℕ) (low : l < 2 ^ d) (wide : 8 ≤ d) where
+  -- a byte enters: what is shifted and what is added are reduced as one
+  pub grown-reduced : (s e : ℕ) → e < 2 ^ 8 → grown d l s e ≡ rem d l (s * 2 ^ 8 + e)
+  unfolding grown
+  grown-reduced s e h =
+      ap (bitXor (rem d l (s * 2 ^ 8))) (sym (rem-small d l low e (lt-of-lt-of-le h (pow-mono wide))))
+      ∙ sym (rem-xor d l low (s * 2 ^ 8) e)
+      ∙ ap (rem d l) (xor-shifted s 8 e h)
+
+  pub signature-snoc : (bs : List ℕ) (e : ℕ) → e < 2 ^ 8 → signature d l (bs ++ e ∷ []) ≡ grown d l (signature d l bs) e
+  unfolding signature
+  signature-snoc bs e h =
+      ap (rem d l) (number-snoc bs e) ∙ rem-shift d l low 8 (number bs) e h ∙ sym (grown-reduced (rem d l (number bs)) e h)
+
+  -- a window of m bytes slides by one: b leaves and e enters
+  pub slide : (m b : ℕ) (rest : List ℕ) (e : ℕ) → length (b ∷ rest) ≡ m → Bytes rest → e < 2 ^ 8
+      → signature d l (rest ++ e ∷ []) ≡ rolled d l m (signature d l (b ∷ rest)) b e
+  unfolding number rolled signature
+  slide m b rest e len bytes h =
+      let power : 2 ^ (8 * m) ≡ 2 ^ (8 * length rest) * 2 ^ 8 = ap (λ (n : ℕ). 2 ^ (8 * n)) (sym len) ∙ byte-power (length rest) in
+      let next = number rest * 2 ^ 8 + e in
+      let fits : next < 2 ^ (8 * m) = subst (λ (x : ℕ). next < x) (sym power) (digits-lt (number-lt rest bytes) h) in
+      let whole : number (b ∷ rest) * 2 ^ 8 + e ≡ b * 2 ^ (8 * m) + next =
+      regroup b (2 ^ (8 * length rest)) (number rest) e ∙ ap (λ (x : ℕ). b * x + next) (sym power) in
+      let left = rem d l (b * 2 ^ (8 * m)) in
+      ap (rem d l) (number-snoc rest e)
+      ∙ sym (xor-cancel left (rem d l next))
+      ∙ xor-comm left (bitXor left (rem d l next))
+      ∙ ap (λ (x : ℕ). bitXor x left)
+      (sym (rem-xor d l low (b * 2 ^ (8 * m)) next)
+      ∙ ap (rem d l) (xor-shifted b (8 * m) next fits ∙ sym whole)
+      ∙ rem-shift d l low 8 (number (b ∷ rest)) e h
+      ∙ sym (grown-reduced (rem d l (number (b ∷ rest))) e h))
+
+  -- the same in a log, from offset q to the next
+  pub slide-log : (m : ℕ) (log : List ℕ) → Bytes log → (q : ℕ) → q + m < length log → 0 < m
+      → signature d l (take m (drop (q + 1) log)) ≡ rolled d l m (signature d l (take m (drop q log))) (getD log q 0) (getD log (q + m) 0)
+  slide-log zero log bytes q h pos = absurd (not-suc-le-zero pos)
+  slide-log (suc k) log bytes q h pos =
+      let after = drop (suc q) log in
+      let long : k < length after = simp length-drop (omega arith) in
+      let enters : getD after k 0 ≡ getD log (q + suc k) 0 = getD-drop (suc q) log k 0 ∙ ap (λ (i : ℕ). getD log i 0) (omega arith) in
+      ap (λ (i : ℕ). signature d l (take (suc k) (drop i log))) (add-one q)
+      ∙ ap (signature d l) (take-suc after k 0 long)
+      ∙ slide (suc k) (getD log q 0) (take k after) (getD after k 0) (ap suc (length-take-le k after (le-of-lt long)))
+      (bytes-take k after (bytes-drop (suc q) log bytes)) (bytes-drop (suc q) log bytes k)
+      ∙ ap₂ (λ (w : List ℕ) (e : ℕ). rolled d l (suc k) (signature d l w) (getD log q 0) e)
+      (sym (ap (take (suc k)) (drop-cons log q 0 (omega arith)))) enters
+
+-- a byte enters by shifts and masks in a word of w bits: the e low digits move up by 8, and x stands for those above them
+pub grown-by-shifts : (e l w : ℕ) → l < 2 ^ (e + 8) → e + 8 ≤ w → (s b x : ℕ) → b < 2 ^ 8 → x ≡ rem (e + 8) l (s / 2 ^ e * 2 ^ (e + 8))
+    → bitXor (bitOr (bitAnd s (2 ^ e - 1) * 2 ^ 8 % 2 ^ w) b) x ≡ grown (e + 8) l s b
+grown-by-shifts e l w low fits s b x hb is-x =
+    let masked : bitAnd s (2 ^ e - 1) * 2 ^ 8 % 2 ^ w ≡ s % 2 ^ e * 2 ^ 8 =
+        ap (λ (n : ℕ). n * 2 ^ 8 % 2 ^ w) (and-mask s e) ∙ shl-exact e 8 w (mod-lt s (pow-pos e)) fits in
+    ap₂ bitXor (ap (λ (n : ℕ). bitOr n b) masked ∙ or-shifted (s % 2 ^ e) 8 b hb) is-x
+    ∙ xor-comm (s % 2 ^ e * 2 ^ 8 + b) (rem (e + 8) l (s / 2 ^ e * 2 ^ (e + 8)))
+    ∙ sym (rem-by-top e 8 l low s b hb)
+    ∙ sym (grown-reduced (e + 8) l low (omega arith) s b hb)
+
+-- of the 48 bytes at an offset, those before the i-th give s: with the i-th they give r
+pub push-grows : (log : List ℕ) → Bytes log → (q i : ℕ) → q + i < length log → (s r : ℕ) → s ≡ signatureOf (take i (drop q log))
+    → r ≡ grown degree lowPart s (getD log (q + i) 0) → r ≡ signatureOf (take (i + 1) (drop q log))
+unfolding signatureOf
+push-grows log bytes q i h s r is-s is-r =
+    let long : i < length (drop q log) = simp length-drop (omega arith) in
+    is-r
+    ∙ ap₂ (λ (x e : ℕ). grown degree lowPart x e) is-s (sym (getD-drop q log i 0))
+    ∙ sym (signature-snoc degree lowPart (lit< tt) (lit≤ tt) (take i (drop q log)) (getD (drop q log) i 0) (bytes-drop q log bytes i))
+    ∙ ap (signature degree lowPart) (sym (ap (λ (k : ℕ). take k (drop q log)) (add-one i) ∙ take-suc (drop q log) i 0 long))
+
+-- rolled over the bytes log[q] and log[q + 48], the signature of the window at q is that of the window at q + 1
+pub roll-slides : (log : List ℕ) → Bytes log → (q : ℕ) → q + 48 < length log → (s r : ℕ) → s ≡ signatureOf (window log q)
+    → r ≡ rolled degree lowPart 48 s (getD log q 0) (getD log (q + 48) 0) → r ≡ signatureOf (window log (q + 1))
+unfolding signatureOf
+roll-slides log bytes q h s r is-s is-r =
+    is-r ∙ ap (λ (x : ℕ). rolled degree lowPart 48 x (getD log q 0) (getD log (q + 48) 0)) is-s
+    ∙ sym (slide-log degree lowPart (lit< tt) (lit≤ tt) 48 log bytes q h (lit< tt))
+
+pub signature-lt : (bytes : List ℕ) → signatureOf bytes < 2 ^ degree
+unfolding signatureOf signature
+signature-lt bytes = rem-lt degree lowPart (lit< tt) (number bytes)

@@ -1,0 +1,68 @@
+-- `signature::of_window` meets its contract. The loop's invariant: the signature is that of the i bytes passed.
+use mathlib.Core.Path.{_≡_, refl, sym, ap, subst, _∙_}
+use Prim.Native.Nat.{ℕ, _+_, _-_, _^_, _≤_, _<_}
+use native.Mathlib.Omega.{arith}
+use borrow.Author.Needs.{needs}
+use lib.Dec.{lit≤}
+use lib.ListN.{length, take, drop}
+use Rattle.signature.specs.Polynomials.{rem}
+use Rattle.signature.specs.Signatures.{number, signature as sign, degree, signatureOf}
+use Rattle.signature.proofs.Windows.{signature-lt, push-grows}
+use Rattle.signature.proofs.of_window.Statement.{statement}
+use Rattle.signature.proofs.of_window.Tie as tie
+
+abbrev Inv-loop : tie.InvT-loop
+Inv-loop bytes at pushed signature₀ i₀ signature i = (i ≤ 48) × (signature ≡ signatureOf (take i (drop at bytes)))
+
+abbrev μ-loop : tie.MeasureT-loop
+μ-loop bytes at pushed signature₀ i₀ signature i = 48 - i
+
+loop-holds : tie.Need-loop-holds Inv-loop μ-loop
+unfolding signatureOf sign number rem
+loop-holds c = (lit≤ tt, refl)
+
+add-push : tie.Need-add-push Inv-loop μ-loop
+add-push c = search needs
+
+shared-slice-read-push : tie.Need-shared-slice-read-push Inv-loop μ-loop
+shared-slice-read-push c = search needs
+
+push-requires : tie.Need-push-requires Inv-loop μ-loop
+push-requires c κs =
+    (subst (λ (x : ℕ). x < 2 ^ degree) (sym (c .before .before .loop .inv .1)) (signature-lt _), c .before .before .before .before .pre .1)
+
+add-i : tie.Need-add-i Inv-loop μ-loop
+add-i c = search needs
+
+loop-less : tie.Need-loop-less Inv-loop μ-loop
+loop-less c = search needs
+
+loop-again : tie.Need-loop-again Inv-loop μ-loop
+loop-again c =
+    let k = c .before .before .before in
+    let a = k .before .before .args in
+    let inside : a .at + k .loop .i < length (a .bytes .now) = omega arith in
+    ( omega arith
+    , push-grows (a .bytes .now) (λ j. c .before .shared-slice-known2 .given j .fits) (a .at) (k .loop .i) inside _ _ (k .loop .inv .1)
+      (c .push .ensures) )
+
+returns : tie.Need-returns Inv-loop μ-loop
+returns c =
+    let a = c .before .before .before .args in
+    let all : c .before .loop .i ≡ 48 = omega arith in
+    c .before .loop .inv .1 ∙ ap (λ (i : ℕ). signatureOf (take i (drop (a .at) (a .bytes .now)))) all
+
+pub of-window-spec : {M : Type 1} → statement M
+of-window-spec =
+    tie.close
+    (tie.spec
+    Inv-loop
+    μ-loop
+    loop-holds
+    add-push
+    shared-slice-read-push
+    push-requires
+    add-i
+    loop-less
+    loop-again
+    returns)

@@ -1,0 +1,32 @@
+-- `signature::roll` meets its contract: what `push` gives, and the leaving byte's entry taken away.
+use mathlib.Core.Path.{ap, ap₂, _∙_}
+use mathlib.Core.List.{List}
+use Prim.Native.Nat.{ℕ, _*_, _^_}
+use borrow.Author.Needs.{needs}
+use lib.Bits.{bitXor}
+use lib.ListN.{getD}
+use Rattle.laws.proofs.Tables.{getD-tabulate}
+use Rattle.signature.specs.Polynomials.{rem}
+use Rattle.signature.specs.Signatures.{degree, lowPart, rolled, leavingTable}
+use Rattle.signature.proofs.roll.Statement.{statement}
+use Rattle.signature.proofs.roll.Tie as tie
+
+push-requires : tie.Need-push-requires
+push-requires c κs = search needs
+
+mul-result : tie.Need-mul-result
+mul-result c = search needs
+
+element-copy-out-result : tie.Need-element-copy-out-result
+element-copy-out-result c = search needs
+
+returns : tie.Need-returns
+unfolding rolled leavingTable
+returns c =
+    let a = c .before .before .args in
+    ap₂ bitXor (c .before .push .ensures)
+    (ap (λ (xs : List ℕ). getD xs (a .leaves) 0) (c .before .before .pre .1)
+    ∙ getD-tabulate (λ b. rem degree lowPart (b * 2 ^ (8 * 48))) 256 (a .leaves) (c .before .before .fits .leaves .fits))
+
+pub roll-spec : {M : Type 1} → statement M
+roll-spec = tie.close (tie.spec push-requires mul-result element-copy-out-result returns)

@@ -1,0 +1,45 @@
+-- The signature of a run of bytes, and how it rolls: document 01, "Signature and marks".
+use Prim.Native.Nat.{ℕ, _+_, _*_, _^_}
+use mathlib.Core.List.{List, [], _∷_}
+use lib.Bits.{bitXor}
+use lib.ListN.{length, take, drop}
+use Rattle.laws.specs.Tables.{tabulate}
+use Rattle.signature.specs.Polynomials.{rem}
+
+-- bytes read as one polynomial, the first byte highest, each byte's top bit highest
+unfoldable pub number : List ℕ → ℕ
+number [] = 0
+number (b ∷ bs) = b * 2 ^ (8 * length bs) + number bs
+
+unfoldable pub signature : ℕ → ℕ → List ℕ → ℕ
+signature d l bytes = rem d l (number bytes)
+
+-- one byte e more: the signature s multiplied by x^8 and reduced, and the new byte added without carry
+unfoldable pub grown : ℕ → ℕ → ℕ → ℕ → ℕ
+grown d l s e = bitXor (rem d l (s * 2 ^ 8)) e
+
+-- rolled on by one byte over m bytes: e enters, and the leaving byte b times x^(8m), reduced, is taken away
+unfoldable pub rolled : ℕ → ℕ → ℕ → ℕ → ℕ → ℕ → ℕ
+rolled d l m s b e = bitXor (grown d l s e) (rem d l (b * 2 ^ (8 * m)))
+
+-- the polynomial is x^31 + x^3 + 1
+abbrev pub degree : ℕ
+degree = 31
+
+abbrev pub lowPart : ℕ
+lowPart = 9
+
+unfoldable pub signatureOf : List ℕ → ℕ
+signatureOf bytes = signature degree lowPart bytes
+
+-- the 48 bytes of a log from offset q on
+abbrev pub window : List ℕ → ℕ → List ℕ
+window log q = take 48 (drop q log)
+
+-- for each byte, that byte times x^384 reduced: what leaves
+unfoldable pub leavingTable : List ℕ
+leavingTable = tabulate (λ b. rem degree lowPart (b * 2 ^ (8 * 48))) 0 256
+
+-- for each byte, that byte times x^31 reduced: what the shift pushes out
+unfoldable pub pushedTable : List ℕ
+pushedTable = tabulate (λ b. rem degree lowPart (b * 2 ^ degree)) 0 256
