@@ -4,3 +4,6 @@ pub mod Walking
 pub mod Ranges
 pub mod Reading
 pub mod Accepted
+pub mod Patches
+pub mod Orders
+pub mod Merged

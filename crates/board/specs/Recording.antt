@@ -1,20 +1,27 @@
 -- What recording a segment answers and writes, over any marks: document 01, "Segments and the board" and "Numbers answered".
 use Prim.Native.Nat.{ℕ, _+_, _-_, _*_}
 use mathlib.Core.Bool.{Bool, true, false, _&&_}
-use mathlib.Core.List.{List, _∷_, _++_}
+use mathlib.Core.List.{List, [], _∷_, _++_}
 use lib.Dec.{leb, ltb}
 use lib.ListN.{length, take, drop}
 use Rattle.laws.specs.Over.{over}
 use Rattle.terms.specs.declared.Refusal.the-variants.{RecordTooLong}
 use Rattle.terms.specs.declared.Answer.{Answer}
 use Rattle.terms.specs.declared.Answer.the-variants.{Wrote, Refused}
+use Rattle.terms.specs.declared.Settings.{Settings}
+use Rattle.board.specs.declared.Verdict.the-variants.{Granted, Denied}
 use Rattle.board.specs.Segments.{segments, sizeInRange}
-use Rattle.board.specs.Records.{Record, entries}
+use Rattle.board.specs.Records.{Record, entries, segmentRecord}
 use Rattle.board.specs.Bays.{bayOf}
+use Rattle.board.specs.Merging.{judged}
 
 -- S and R in range, and such a segment
 unfoldable pub bayFits : ℕ → ℕ → ℕ → ℕ → Bool
 bayFits size width n i = sizeInRange size && (leb 2 width && ltb i (segments size n))
+
+-- the same with a board of so many numbers, as long as the bays
+unfoldable pub segmentFits : ℕ → ℕ → ℕ → ℕ → ℕ → Bool
+segmentFits size width n i numbers = bayFits size width n i && leb (segments size n * width) numbers
 
 -- the record is not longer than its bay
 unfoldable pub recordFits : Record → ℕ → Bool
@@ -32,3 +39,30 @@ recorded r bay =
 -- a board with bay i replaced
 unfoldable pub withBay : ℕ → ℕ → List ℕ → List ℕ → List ℕ
 withBay width i bay board = take (i * width) board ++ (bay ++ drop (i * width + width) board)
+
+module _ (mark : ℕ → Bool) (s : Settings) (n size i : ℕ) where
+  abbrev pub segmentOf : Record
+  segmentOf = segmentRecord mark (s .minimum) (s .maximum) size n i
+
+  -- recording into a bay that is lent alone: rows 1, 2, 7 and 6
+  unfoldable pub bayAnswer : List ℕ → Answer
+  bayAnswer bay =
+      elim (judged s n (bayFits size (length bay) n i)) [ Denied why ↦ Refused why | Granted ↦ recordAnswer segmentOf (length bay) ]
+
+  unfoldable pub bayAfter : List ℕ → List ℕ
+  bayAfter bay = elim (judged s n (bayFits size (length bay) n i)) [ Denied why ↦ bay | Granted ↦ recorded segmentOf bay ]
+
+  -- recording into bay i of a whole board: the same rows, and every other bay stays as it was
+  unfoldable pub segmentAnswer : ℕ → List ℕ → Answer
+  segmentAnswer width board =
+      elim (judged s n (segmentFits size width n i (length board))) [ Denied why ↦ Refused why | Granted ↦ recordAnswer segmentOf width ]
+
+  unfoldable pub segmentBoard : ℕ → List ℕ → List ℕ
+  segmentBoard width board =
+      elim (judged s n (segmentFits size width n i (length board)))
+      [ Denied why ↦ board | Granted ↦ withBay width i (recorded segmentOf (bayOf width board i)) board ]
+
+-- segment calls, one after the other, over one board
+unfoldable pub recordAll : (ℕ → Bool) → Settings → ℕ → ℕ → ℕ → List ℕ → List ℕ → List ℕ
+recordAll mark s n size width [] board = board
+recordAll mark s n size width (i ∷ calls) board = recordAll mark s n size width calls (segmentBoard mark s n size i width board)

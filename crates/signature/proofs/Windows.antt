@@ -104,7 +104,7 @@ pub grown-by-shifts : (e l w : ℕ) → l < 2 ^ (e + 8) → e + 8 ≤ w → (s b
     → bitXor (bitOr (bitAnd s (2 ^ e - 1) * 2 ^ 8 % 2 ^ w) b) x ≡ grown (e + 8) l s b
 grown-by-shifts e l w low fits s b x hb is-x =
     let masked : bitAnd s (2 ^ e - 1) * 2 ^ 8 % 2 ^ w ≡ s % 2 ^ e * 2 ^ 8 =
-        ap (λ (n : ℕ). n * 2 ^ 8 % 2 ^ w) (and-mask s e) ∙ shl-exact e 8 w (mod-lt s (pow-pos e)) fits in
+    ap (λ (n : ℕ). n * 2 ^ 8 % 2 ^ w) (and-mask s e) ∙ shl-exact e 8 w (mod-lt s (pow-pos e)) fits in
     ap₂ bitXor (ap (λ (n : ℕ). bitOr n b) masked ∙ or-shifted (s % 2 ^ e) 8 b hb) is-x
     ∙ xor-comm (s % 2 ^ e * 2 ^ 8 + b) (rem (e + 8) l (s / 2 ^ e * 2 ^ (e + 8)))
     ∙ sym (rem-by-top e 8 l low s b hb)

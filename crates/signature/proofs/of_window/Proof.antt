@@ -41,10 +41,11 @@ loop-again : tie.Need-loop-again Inv-loop μ-loop
 loop-again c =
     let k = c .before .before .before in
     let a = k .before .before .args in
-    let inside : a .at + k .loop .i < length (a .bytes .now) = omega arith in
-    ( omega arith
-    , push-grows (a .bytes .now) (λ j. c .before .shared-slice-known2 .given j .fits) (a .at) (k .loop .i) inside _ _ (k .loop .inv .1)
-      (c .push .ensures) )
+    let inside : a .at + k .loop .i < length (a .bytes .now) = omega arith in (
+      omega arith,
+      push-grows (a .bytes .now) (λ j. c .before .shared-slice-known2 .given j .fits) (a .at) (k .loop .i) inside _ _ (k .loop .inv .1)
+          (c .push .ensures),
+    )
 
 returns : tie.Need-returns Inv-loop μ-loop
 returns c =
