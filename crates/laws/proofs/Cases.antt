@@ -1,10 +1,10 @@
 -- Case splits as terms: of two numbers, and of a test with its outcome in hand.
-use mathlib.Core.Path.{_≡_, refl}
-use mathlib.Core.Bool.{Bool, true, false, _&&_}
+use mathlib.Core.Path.{_≡_, refl, sym, _∙_}
+use mathlib.Core.Bool.{Bool, true, false, not, _&&_}
 use Prim.Native.Nat.{ℕ, _≤_, _<_}
 use lib.Dec.{ltb}
 use native.Mathlib.Omega.{arith}
-use borrow.Author.Tests.{ltb-true, ltb-false}
+use borrow.Author.Tests.{ltb-true, ltb-false, not-true, not-false}
 
 pub by-test {ℓ} : {C : Type ℓ} (t : Bool) → (t ≡ true → C) → (t ≡ false → C) → C
 by-test true f g = f refl
@@ -19,3 +19,10 @@ both-true {a} {b} e = by-test a (λ h. (h, rw h at e)) (λ h. absurd (never (rw 
   where
     never : false ≡ true → ⊥
     never p = let z : _≡_ {A = ℕ} 0 1 = cc in omega arith
+
+-- a test t asked by a call that answered r, under the code's `if !r`
+pub test-passed : {r t : Bool} → r ≡ t → not r ≡ false → t ≡ true
+test-passed {r} told e = sym told ∙ not-false r e
+
+pub test-failed : {r t : Bool} → r ≡ t → not r ≡ true → t ≡ false
+test-failed {r} told e = sym told ∙ not-true r e

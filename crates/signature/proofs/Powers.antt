@@ -17,10 +17,6 @@ multiples d l low k power is-power xs test =
     tabulated (λ b. rem d l (b * 2 ^ k)) (λ b. rem d l (clmul b power))
     (λ b. ap (λ (p : ℕ). rem d l (clmul b p)) (sym is-power) ∙ rem-times-power d l low k b) xs 0 test
 
-pub x31 : rem degree lowPart (2 ^ 31) ≡ 9
-unfolding rem
-x31 = refl
-
 pub x64 : rem degree lowPart (2 ^ 64) ≡ 260
 unfolding rem
 x64 = refl

@@ -3,7 +3,7 @@
 use mathlib.Core.Path.{_≡_, refl, sym, ap, ap₂, subst, _∙_}
 use mathlib.Core.Logic.{_↔_}
 use Prim.Native.Nat.{ℕ, zero, suc, _+_, _*_, _/_, _%_, _^_, _≤_, _<_}
-use native.Mathlib.Nat.{not-suc-le-zero, zero-mul, one-mul, zero-div, zero-mod, mod-lt, mod-eq-of-lt, div-eq-of-lt, div-le-self, div-lt-iff-lt-mul, div-add-mod', lt-of-le-of-lt, add-zero, mul-one, mul-zero, mul-add, add-mul, add-assoc, le-refl, mul-assoc, mul-comm, pow-suc}
+use native.Mathlib.Nat.{not-suc-le-zero, zero-mul, one-mul, zero-div, zero-mod, mod-lt, mod-eq-of-lt, div-eq-of-lt, div-le-self, div-lt-iff-lt-mul, div-add-mod', lt-of-le-of-lt, add-zero, mod-self, div-self, mul-zero, mul-add, add-mul, add-assoc, le-refl, mul-assoc, mul-comm}
 use native.Mathlib.Decide.{le-ind}
 use native.Mathlib.Omega.{arith}
 use lib.Arith.{bin-ind, half-le, digits-lt}
@@ -153,13 +153,20 @@ module _ (d l : ℕ) (low : l < 2 ^ d) where
   pub rem-times-power : (k a : ℕ) → rem d l (clmul a (rem d l (2 ^ k))) ≡ rem d l (a * 2 ^ k)
   rem-times-power k a = sym (rem-clmul (2 ^ k) a) ∙ ap (rem d l) (clmul-power k a)
 
+  -- x^d is l, which is what reducing means
+  pub rem-power : rem d l (2 ^ d) ≡ l
+  rem-power =
+      rem-open d l (2 ^ d)
+      ∙ ap (λ (r : ℕ). divide d l r (2 ^ d % 2)) (rem-small (2 ^ d / 2) (omega (arith, pow-pos d)))
+      ∙ divide-halves d l (2 ^ d)
+      ∙ ap₂ bitXor (ap (λ (x : ℕ). x * l) (div-self (pow-pos d)) ∙ one-mul l) (mod-self (2 ^ d))
+      ∙ xor-zero-r l
+
   rem-modulus : rem d l (2 ^ d + l) ≡ 0
   rem-modulus =
-      ap (rem d l) (ap (λ (x : ℕ). x + l) (sym (one-mul (2 ^ d))))
-      ∙ rem-open d l (1 * 2 ^ d + l)
-      ∙ ap (λ (r : ℕ). divide d l r ((1 * 2 ^ d + l) % 2)) (rem-small ((1 * 2 ^ d + l) / 2) (omega arith))
-      ∙ divide-halves d l (1 * 2 ^ d + l)
-      ∙ ap₂ bitXor (ap (λ (x : ℕ). x * l) (high 1 d low) ∙ one-mul l) (low-part 1 d low)
+      ap (rem d l) (sym (xor-shifted 1 d l low ∙ ap (λ (x : ℕ). x + l) (one-mul (2 ^ d))))
+      ∙ rem-xor (1 * 2 ^ d) l
+      ∙ ap₂ bitXor (ap (rem d l) (one-mul (2 ^ d)) ∙ rem-power) (rem-small l low)
       ∙ xor-self l
 
   rem-multiple : (q : ℕ) → rem d l (clmul q (2 ^ d + l)) ≡ 0

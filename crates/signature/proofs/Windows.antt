@@ -1,6 +1,6 @@
 -- The signature of a run of bytes when a byte enters, and when a window slides: over any degree d from 8 on, any low part and
 -- any length of the window. At the end the window of 48 bytes, in the form that a search through a log cites.
-use mathlib.Core.Path.{_≡_, refl, sym, ap, ap₂, subst, _∙_}
+use mathlib.Core.Path.{_≡_, sym, ap, ap₂, subst, _∙_}
 use mathlib.Core.List.{List, [], _∷_, _++_}
 use Prim.Native.Nat.{ℕ, zero, suc, _+_, _-_, _*_, _/_, _%_, _^_, _≤_, _<_}
 use native.Mathlib.Nat.{mul-suc, mul-comm, le-of-lt, mod-lt, lt-of-lt-of-le, not-suc-le-zero}
@@ -13,7 +13,7 @@ use lib.Bits.{bitAnd, bitOr, bitXor, and-mask, or-shifted, xor-comm, xor-shifted
 use lib.ListN.{length, getD, take, drop, length-append, length-drop}
 use lib.Seq.{take-suc, drop-cons, getD-drop, length-take-le}
 use Rattle.signature.specs.Polynomials.{rem}
-use Rattle.signature.specs.Signatures.{number, signature, grown, rolled, degree, lowPart, signatureOf, window}
+use Rattle.signature.specs.Signatures.{number, signature, grown, rolled, degree, lowPart, span, signatureOf, window}
 use Rattle.signature.proofs.Xor.{xor-cancel}
 use Rattle.signature.proofs.Remainders.{rem-lt, rem-small, rem-xor, rem-shift, rem-by-top}
 
@@ -110,7 +110,7 @@ grown-by-shifts e l w low fits s b x hb is-x =
     ∙ sym (rem-by-top e 8 l low s b hb)
     ∙ sym (grown-reduced (e + 8) l low (omega arith) s b hb)
 
--- of the 48 bytes at an offset, those before the i-th give s: with the i-th they give r
+-- of the bytes from offset q on, those before the i-th give s: with the i-th they give r
 pub push-grows : (log : List ℕ) → Bytes log → (q i : ℕ) → q + i < length log → (s r : ℕ) → s ≡ signatureOf (take i (drop q log))
     → r ≡ grown degree lowPart s (getD log (q + i) 0) → r ≡ signatureOf (take (i + 1) (drop q log))
 unfolding signatureOf
@@ -122,13 +122,13 @@ push-grows log bytes q i h s r is-s is-r =
     ∙ ap (signature degree lowPart) (sym (ap (λ (k : ℕ). take k (drop q log)) (add-one i) ∙ take-suc (drop q log) i 0 long))
 
 -- rolled over the bytes log[q] and log[q + 48], the signature of the window at q is that of the window at q + 1
-pub roll-slides : (log : List ℕ) → Bytes log → (q : ℕ) → q + 48 < length log → (s r : ℕ) → s ≡ signatureOf (window log q)
-    → r ≡ rolled degree lowPart 48 s (getD log q 0) (getD log (q + 48) 0) → r ≡ signatureOf (window log (q + 1))
+pub roll-slides : (log : List ℕ) → Bytes log → (q : ℕ) → q + span < length log → (s r : ℕ) → s ≡ signatureOf (window log q)
+    → r ≡ rolled degree lowPart span s (getD log q 0) (getD log (q + span) 0) → r ≡ signatureOf (window log (q + 1))
 unfolding signatureOf
 roll-slides log bytes q h s r is-s is-r =
-    is-r ∙ ap (λ (x : ℕ). rolled degree lowPart 48 x (getD log q 0) (getD log (q + 48) 0)) is-s
-    ∙ sym (slide-log degree lowPart (lit< tt) (lit≤ tt) 48 log bytes q h (lit< tt))
+    is-r ∙ ap (λ (x : ℕ). rolled degree lowPart span x (getD log q 0) (getD log (q + span) 0)) is-s
+    ∙ sym (slide-log degree lowPart (lit< tt) (lit≤ tt) span log bytes q h (lit< tt))
 
-pub signature-lt : (bytes : List ℕ) → signatureOf bytes < 2 ^ degree
+pub signature-lt : (bytes : List ℕ) {s : ℕ} → s ≡ signatureOf bytes → s < 2 ^ degree
 unfolding signatureOf signature
-signature-lt bytes = rem-lt degree lowPart (lit< tt) (number bytes)
+signature-lt bytes is-s = subst (λ (x : ℕ). x < 2 ^ degree) (sym is-s) (rem-lt degree lowPart (lit< tt) (number bytes))

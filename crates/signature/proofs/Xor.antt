@@ -1,7 +1,7 @@
 -- The sum without carries: laws of the exclusive or that the remainder's laws rest on.
 use mathlib.Core.Path.{_≡_, refl, sym, ap, ap₂, _∙_}
 use Prim.Native.Nat.{ℕ, zero, suc, _+_, _*_, _/_, _%_, _^_, _<_}
-use native.Mathlib.Nat.{add-zero, mod-lt, le-of-suc-le-suc, not-suc-le-zero, zero-mul, one-mul}
+use native.Mathlib.Nat.{add-zero, mod-lt, le-of-suc-le-suc, not-suc-le-zero, zero-mul}
 use lib.Arith.{bin-ind}
 use lib.Dec.{lit<}
 use lib.Pow.{split, pow-pos}

@@ -29,16 +29,20 @@ degree = 31
 abbrev pub lowPart : ℕ
 lowPart = 9
 
+-- a window is this many bytes
+abbrev pub span : ℕ
+span = 48
+
 unfoldable pub signatureOf : List ℕ → ℕ
 signatureOf bytes = signature degree lowPart bytes
 
--- the 48 bytes of a log from offset q on
+-- the window of a log from offset q on
 abbrev pub window : List ℕ → ℕ → List ℕ
-window log q = take 48 (drop q log)
+window log q = take span (drop q log)
 
 -- for each byte, that byte times x^384 reduced: what leaves
 unfoldable pub leavingTable : List ℕ
-leavingTable = tabulate (λ b. rem degree lowPart (b * 2 ^ (8 * 48))) 0 256
+leavingTable = tabulate (λ b. rem degree lowPart (b * 2 ^ (8 * span))) 0 256
 
 -- for each byte, that byte times x^31 reduced: what the shift pushes out
 unfoldable pub pushedTable : List ℕ

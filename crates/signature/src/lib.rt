@@ -1,9 +1,9 @@
 // The signature of 48 bytes: read as one binary polynomial, and its remainder by x^31 + x^3 + 1. How it grows by a byte, and how
-// it rolls on by one over a log.
+// it rolls on by one over a log. What requires the tables or a whole window is for the crates that cut, and is not exported.
 ghost use mathlib.Core.Path.{_≡_};
 ghost use Prim.Native.Nat.{_+_, _≤_, _<_, _^_};
 ghost use lib.ListN.{length};
-ghost use Rattle.signature.specs.Signatures.{degree, lowPart, grown, rolled, signatureOf, window, leavingTable, pushedTable};
+ghost use Rattle.signature.specs.Signatures.{degree, lowPart, span, grown, rolled, signatureOf, window, leavingTable, pushedTable};
 
 pub mod tables;
 
@@ -25,14 +25,14 @@ pub fn roll(
     pushed: &[u32; 256],
 ) -> u32
     requires { ⌜ (signature < 2 ^ degree) × (now leaving ≡ leavingTable) × (now pushed ≡ pushedTable) ⌝ }
-    ensures { λ r. ⌜ r ≡ rolled degree lowPart 48 signature leaves enters ⌝ }
+    ensures { λ r. ⌜ r ≡ rolled degree lowPart span signature leaves enters ⌝ }
 {
     push(signature, enters, pushed) ^ leaving[leaves as usize]
 }
 
 // The signature of the 48 bytes from offset at on.
 pub fn of_window(bytes: &[u8], at: usize, pushed: &[u32; 256]) -> u32
-    requires { ⌜ (at + 48 ≤ length (now bytes)) × (now pushed ≡ pushedTable) ⌝ }
+    requires { ⌜ (at + span ≤ length (now bytes)) × (now pushed ≡ pushedTable) ⌝ }
     ensures { λ r. ⌜ r ≡ signatureOf (window (now (bytes .entry)) at) ⌝ }
 {
     let mut signature: u32 = 0;

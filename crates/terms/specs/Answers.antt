@@ -1,5 +1,6 @@
 -- What stands beside an answer, as document 01's "Numbers answered" counts it, and the two limits that many calls test.
 use Prim.Native.Nat.{ℕ, _+_, _/_, _^_}
+use mathlib.Core.Bool.{Bool, true, false}
 use Rattle.terms.specs.declared.Answer.{Answer}
 use Rattle.terms.specs.declared.Answer.the-variants.{Wrote, Refused}
 use Rattle.terms.specs.Refusals.{numberOf}
@@ -21,3 +22,8 @@ longest = 2 ^ 40
 -- the entries that cutting so many bytes needs room for
 abbrev pub roomFor : ℕ → ℕ → ℕ
 roomFor minimum bytes = bytes / minimum + 1
+
+-- one row of a call's refusals: refused, unless the test passes
+abbrev pub unless {ℓ} : {A : Type ℓ} → Bool → A → A → A
+unless true refused answer = answer
+unless false refused answer = refused

@@ -1,12 +1,12 @@
 -- `signature::of_window` meets its contract. The loop's invariant: the signature is that of the i bytes passed.
-use mathlib.Core.Path.{_≡_, refl, sym, ap, subst, _∙_}
-use Prim.Native.Nat.{ℕ, _+_, _-_, _^_, _≤_, _<_}
+use mathlib.Core.Path.{_≡_, refl, ap, _∙_}
+use Prim.Native.Nat.{ℕ, _+_, _-_, _≤_, _<_}
 use native.Mathlib.Omega.{arith}
 use borrow.Author.Needs.{needs}
 use lib.Dec.{lit≤}
 use lib.ListN.{length, take, drop}
 use Rattle.signature.specs.Polynomials.{rem}
-use Rattle.signature.specs.Signatures.{number, signature as sign, degree, signatureOf}
+use Rattle.signature.specs.Signatures.{number, signature as sign, signatureOf}
 use Rattle.signature.proofs.Windows.{signature-lt, push-grows}
 use Rattle.signature.proofs.of_window.Statement.{statement}
 use Rattle.signature.proofs.of_window.Tie as tie
@@ -28,8 +28,7 @@ shared-slice-read-push : tie.Need-shared-slice-read-push Inv-loop μ-loop
 shared-slice-read-push c = search needs
 
 push-requires : tie.Need-push-requires Inv-loop μ-loop
-push-requires c κs =
-    (subst (λ (x : ℕ). x < 2 ^ degree) (sym (c .before .before .loop .inv .1)) (signature-lt _), c .before .before .before .before .pre .1)
+push-requires c κs = (signature-lt _ (c .before .before .loop .inv .1), c .before .before .before .before .pre .1)
 
 add-i : tie.Need-add-i Inv-loop μ-loop
 add-i c = search needs

@@ -7,7 +7,7 @@ use lib.Bits.{bitXor}
 use lib.ListN.{getD}
 use Rattle.laws.proofs.Tables.{getD-tabulate}
 use Rattle.signature.specs.Polynomials.{rem}
-use Rattle.signature.specs.Signatures.{degree, lowPart, rolled, leavingTable}
+use Rattle.signature.specs.Signatures.{degree, lowPart, span, rolled, leavingTable}
 use Rattle.signature.proofs.roll.Statement.{statement}
 use Rattle.signature.proofs.roll.Tie as tie
 
@@ -26,7 +26,7 @@ returns c =
     let a = c .before .before .args in
     ap₂ bitXor (c .before .push .ensures)
     (ap (λ (xs : List ℕ). getD xs (a .leaves) 0) (c .before .before .pre .1)
-    ∙ getD-tabulate (λ b. rem degree lowPart (b * 2 ^ (8 * 48))) 256 (a .leaves) (c .before .before .fits .leaves .fits))
+    ∙ getD-tabulate (λ b. rem degree lowPart (b * 2 ^ (8 * span))) 256 (a .leaves) (c .before .before .fits .leaves .fits))
 
 pub roll-spec : {M : Type 1} → statement M
 roll-spec = tie.close (tie.spec push-requires mul-result element-copy-out-result returns)

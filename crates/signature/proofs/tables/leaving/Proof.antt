@@ -1,15 +1,15 @@
 -- `signature::tables::leaving` meets its contract: the table's rule is one test over all its entries.
-use Rattle.laws.specs.Tables.{tabulate}
+use Prim.Native.Nat.{_*_}
 use lib.Dec.{lit<}
 use Rattle.signature.specs.Polynomials.{clmul, rem}
-use Rattle.signature.specs.Signatures.{degree, lowPart, leavingTable}
+use Rattle.signature.specs.Signatures.{degree, lowPart, span, leavingTable}
 use Rattle.signature.proofs.Powers.{multiples, x384}
 use Rattle.signature.proofs.tables.leaving.Statement.{statement}
 use Rattle.signature.proofs.tables.leaving.Tie as tie
 
 returns : tie.Need-returns
 unfolding leavingTable clmul rem
-returns c = multiples degree lowPart (lit< tt) 384 _ x384 _ tt
+returns c = multiples degree lowPart (lit< tt) (8 * span) _ x384 _ tt
 
 pub leaving-spec : {M : Type 1} → statement M
 leaving-spec = tie.close (tie.spec returns)

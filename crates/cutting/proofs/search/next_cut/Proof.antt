@@ -1,0 +1,28 @@
+use native.Mathlib.Omega.{arith}
+use Rattle.terms.proofs.Ranges.{ranges}
+use Rattle.cutting.proofs.Searching.{searched, too-near}
+use Rattle.cutting.proofs.search.next_cut.Statement.{statement}
+use Rattle.cutting.proofs.search.next_cut.Tie as tie
+
+add-first : tie.Need-add-first
+add-first c = omega (arith, ranges _ (c .before .pre .0) .bounded, ranges _ (c .before .pre .0) .ordered, c .before .pre .1 .0, c .before .good)
+
+add-smaller : tie.Need-add-smaller
+add-smaller c = omega (arith, ranges _ (c .before .pre .0) .bounded, c .before .pre .1 .0, c .before .good)
+
+smaller-requires : tie.Need-smaller-requires
+smaller-requires c κs = tt
+
+returns : tie.Need-returns
+returns c = too-near _ _ _ _ (c .before .smaller .ensures) (c .if1 .taken)
+
+first-mark-requires : tie.Need-first-mark-requires
+first-mark-requires c κs = (c .before .before .before .pre .0, ((omega (arith, ranges _ (c .before .before .before .pre .0) .window-fits), c .if1 .left, omega (arith, c .before .smaller .ensures)), c .before .before .before .pre .1 .1))
+
+returns-2 : tie.Need-returns-2
+returns-2 c = searched _ _ _ _ (c .before .before .smaller .ensures) _ (c .first-mark .ensures)
+
+pub next-cut-spec : {M : Type 1} → statement M
+next-cut-spec =
+    tie.close
+    (tie.spec add-first add-smaller smaller-requires returns first-mark-requires returns-2)

@@ -1,0 +1,3 @@
+// Marks, the one-pass rule, and cutting a whole log.
+pub mod search;
+pub mod whole;
