@@ -1,18 +1,15 @@
 -- A lent list filled with the cuts of a chain, one after the other: what is known after each, and what that says where it stops.
 use Prim.Native.Nat.{ℕ, _+_, _-_, _≤_, _<_}
 use mathlib.Core.Path.{_≡_, refl, sym, ap, _∙_, subst}
-use mathlib.Core.Bool.{true, false}
 use mathlib.Core.List.{List, [], _∷_, _++_, append-nil}
 use native.Mathlib.Omega.{arith}
-use lib.Dec.{leb}
-use lib.ListN.{length, take, set, length-append}
+use lib.ListN.{length, set, length-append}
 use lib.Seq.{take-append-seam, take-all}
 use borrow.Author.Tests.{le-leb, lt-leb}
 use Rattle.laws.specs.Over.{over}
 use Rattle.laws.proofs.Writing.{over-none, over-more, length-over}
 use Rattle.terms.specs.declared.Answer.the-variants.{Wrote, Refused}
 use Rattle.terms.specs.declared.Refusal.the-variants.{ListFull}
-use Rattle.terms.specs.Answers.{unless}
 use Rattle.rule.specs.Rule.{chain}
 use Rattle.rule.proofs.Chain.{Run, stay, onward, Rising, run-joined, parted, opened, at-end}
 use Rattle.cutting.specs.WholeLog.{writtenAnswer, writtenList}

@@ -1,6 +1,5 @@
 -- What cutting a whole log answers, and what it leaves in the lent list: document 01, "Numbers answered".
 use Prim.Native.Nat.{ℕ}
-use mathlib.Core.Bool.{Bool, true, false, _&&_}
 use mathlib.Core.List.{List}
 use lib.Dec.{leb}
 use lib.ListN.{length, take}

@@ -5,12 +5,11 @@ use mathlib.Core.Bool.{Bool, true, false}
 use mathlib.Core.List.{List, [], _∷_, _++_}
 use native.Mathlib.Nat.{le-trans}
 use native.Mathlib.Omega.{arith}
-use lib.Dec.{leb}
 use borrow.Author.Tests.{le-leb, lt-leb, lt-ltb, le-ltb}
 use Rattle.laws.proofs.Cases.{by-lt}
-use Rattle.rule.specs.Rule.{firstMark, next, chain, hop, hops, lastOr, cutsFrom, closing, Unmarked, NextCut, first-mark, forced, log-ends}
-use Rattle.rule.proofs.First.{First, at-mark, none-there, first-is, first-at, first-none}
-use Rattle.rule.proofs.Chain.{Run, stay, onward, Rising, opened, parted, at-end}
+use Rattle.rule.specs.Rule.{next, chain, hop, hops, lastOr, cutsFrom, closing, Unmarked, first-mark, forced, log-ends}
+use Rattle.rule.proofs.First.{First, at-mark, none-there, first-is, first-at}
+use Rattle.rule.proofs.Chain.{Run, stay, onward, opened, parted, at-end}
 use Rattle.rule.proofs.Next.{next-only, rising}
 
 -- l are the hops after c that stay at or below e, and m is the last of them, or c where there are none

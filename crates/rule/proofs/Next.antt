@@ -1,10 +1,10 @@
 -- The rule's next cut: document 01's sentence holds of it and of nothing else; its bounds; what it depends on; how it moves.
-use Prim.Native.Nat.{ℕ, zero, suc, _+_, _-_, _≤_, _<_, min}
-use mathlib.Core.Path.{_≡_, refl, sym, ap, _∙_, subst}
-use mathlib.Core.Bool.{Bool, true, false}
+use Prim.Native.Nat.{ℕ, suc, _+_, _-_, _≤_, _<_, min}
+use mathlib.Core.Path.{_≡_, sym, ap, _∙_, subst}
+use mathlib.Core.Bool.{Bool}
 use native.Mathlib.Omega.{arith}
 use Rattle.laws.proofs.Cases.{by-lt}
-use Rattle.rule.specs.Rule.{firstMark, next, Unmarked, NextCut, first-mark, forced, log-ends}
+use Rattle.rule.specs.Rule.{firstMark, next, NextCut, first-mark, forced, log-ends}
 use Rattle.rule.proofs.First.{First, at-mark, none-there, first-is, first-at, first-none, first-moves}
 use Rattle.rule.proofs.Chain.{Rising}
 

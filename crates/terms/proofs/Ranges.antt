@@ -1,8 +1,7 @@
 -- Settings that passed their test, as facts by name.
-use Prim.Native.Nat.{ℕ, _-_, _^_, _≤_}
+use Prim.Native.Nat.{_-_, _^_, _≤_}
 use mathlib.Core.Path.{_≡_}
-use mathlib.Core.Bool.{Bool, true, false, _&&_}
-use lib.Dec.{leb}
+use mathlib.Core.Bool.{true}
 use borrow.Author.Tests.{leb-true}
 use Rattle.laws.proofs.Cases.{both-true}
 use Rattle.terms.specs.declared.Settings.{Settings}

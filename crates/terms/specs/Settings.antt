@@ -1,6 +1,6 @@
 -- The settings' ranges: document 01, "Signature and marks".
-use Prim.Native.Nat.{ℕ, _-_, _^_}
-use mathlib.Core.Bool.{Bool, true, false, _&&_}
+use Prim.Native.Nat.{_-_, _^_}
+use mathlib.Core.Bool.{Bool, _&&_}
 use lib.Dec.{leb}
 use Rattle.terms.specs.declared.Settings.{Settings}
 

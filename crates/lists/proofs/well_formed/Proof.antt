@@ -4,7 +4,6 @@ use Prim.Native.Nat.{_≤_, _-_}
 use lib.ListN.{length, drop}
 use borrow.Author.Needs.{needs}
 use borrow.Author.Tests.{le-leb, lt-leb, not-true, not-false}
-use native.Mathlib.Omega.{arith}
 use Rattle.lists.specs.WellFormed.{stepsFit, wellFormed}
 use Rattle.lists.proofs.Steps.{step-passed, step-refused, steps-end}
 use Rattle.lists.proofs.well_formed.Statement.{statement}

@@ -1,13 +1,11 @@
-use borrow.Author.Needs.{needs}
+-- `cutting::search::first_mark` meets its contract: the loop's invariant is `Searching`, and each way out is one law about it.
 use native.Mathlib.Omega.{arith}
-use Prim.Native.Nat.{_-_, _<_, _^_}
-use Rattle.cutting.proofs.Searching.{Searching, start, turn, found, ended, mask-is}
+use Prim.Native.Nat.{_-_}
+use Rattle.cutting.proofs.Searching.{Searching, start, turn, found, ended}
 use Rattle.terms.proofs.Ranges.{ranges}
-use Rattle.signature.specs.Signatures.{degree}
 use Rattle.signature.proofs.Windows.{signature-lt}
 use lib.Pow.{pow-pos, shl-exact}
 use lib.Dec.{lit<}
-use mathlib.Core.Path.{sym, subst, ap, _∙_}
 use Rattle.cutting.proofs.search.first_mark.Statement.{statement}
 use Rattle.cutting.proofs.search.first_mark.Tie as tie
 
@@ -43,7 +41,7 @@ shared-slice-read-roll-2 : tie.Need-shared-slice-read-roll-2 Inv-loop μ-loop
 shared-slice-read-roll-2 c = omega (arith, c .before .before .before .before .loop .inv .ahead, c .before .before .if2 .left, c .before .before .before .before .before .before .before .before .pre)
 
 roll-requires : tie.Need-roll-requires Inv-loop μ-loop
-roll-requires c κs = (subst (λ x. x < 2 ^ degree) (sym (c .before .before .before .before .loop .inv .here)) (signature-lt _), c .before .before .before .before .before .before .before .before .pre .1 .1 .0, c .before .before .before .before .before .before .before .before .pre .1 .1 .1)
+roll-requires c κs = (signature-lt _ (c .before .before .before .before .loop .inv .here), c .before .before .before .before .before .before .before .before .pre .1 .1 .0, c .before .before .before .before .before .before .before .before .pre .1 .1 .1)
 
 add-at : tie.Need-add-at Inv-loop μ-loop
 add-at c = omega (arith, c .before .before .before .before .before .loop .inv .ahead, c .before .before .before .if2 .left, c .before .before .before .before .before .before .before .before .before .pre, c .before .before .before .before .before .before .before .before .before .good)

@@ -1,3 +1,4 @@
+-- `cutting::search::next_cut` meets its contract: the last offset looked at is the smaller of cut + maximum and the log's end.
 use native.Mathlib.Omega.{arith}
 use Rattle.terms.proofs.Ranges.{ranges}
 use Rattle.cutting.proofs.Searching.{searched, too-near}

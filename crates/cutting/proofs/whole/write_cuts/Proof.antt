@@ -1,7 +1,7 @@
-use borrow.Author.Needs.{needs}
+-- `cutting::whole::write_cuts` meets its contract: the loop's invariant is `Filled`, and each way out is one law about it.
 use native.Mathlib.Omega.{arith}
-use Prim.Native.Nat.{_-_, _<_}
-use mathlib.Core.Path.{_≡_, _∙_}
+use Prim.Native.Nat.{_-_}
+use mathlib.Core.Path.{_∙_}
 use lib.ListN.{length}
 use Rattle.cutting.proofs.Marked.{log-rising}
 use Rattle.rule.specs.Rule.{cutsFrom}
