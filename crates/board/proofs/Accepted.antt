@@ -12,6 +12,7 @@ use borrow.Author.Tests.{le-leb, lt-ltb, eq-eqb}
 use Rattle.laws.proofs.Cases.{by-test}
 use Rattle.rule.specs.Rule.{hop, hops, cutsUpTo}
 use Rattle.rule.proofs.Hops.{UpTo, past, leap, up-to, hop-rises, hop-long}
+use Rattle.lists.specs.WellFormed.{stepFits}
 use Rattle.terms.specs.declared.Settings.{Settings}
 use Rattle.board.specs.declared.Verdict.the-variants.{Granted, Denied}
 use Rattle.board.specs.Segments.{segments, segmentStart, segmentEnd}
@@ -51,11 +52,12 @@ module _ (mark : ℕ → Bool) (lo hi : ℕ) (positive : 0 < lo) (order : lo ≤
   rises-hops (leap {c = c} {l = l} b r) = rises-on c e (hop mark lo hi c) l (hop-rises mark lo hi positive order c) b ∙ rises-hops r
 
   steps-hops : {c m : ℕ} {l : List ℕ} → UpTo (hop mark lo hi) e c l m → stepsWithin lo hi c l ≡ true
-  unfolding stepsWithin
+  unfolding stepsWithin stepFits
   steps-hops (past b) = refl
   steps-hops (leap {c = c} {l = l} b r) =
       let long = hop-long mark lo hi c order in
-      rw (le-leb lo (hop mark lo hi c - c) (omega arith), le-leb (hop mark lo hi c - c) hi (omega arith), stepsWithin) (steps-hops r)
+      rw (lt-ltb c (hop mark lo hi c) (omega arith), le-leb (hop mark lo hi c - c) hi (omega arith), le-leb lo (hop mark lo hi c - c) (omega arith), stepsWithin)
+      (steps-hops r)
 
   rises-after : {a : ℕ} {marks : List ℕ} → Marks mark e a marks → risesWithin a e (recordAfter mark lo hi e a marks .offsets) ≡ true
   unfolding risesWithin recordAfter prepend cutsUpTo

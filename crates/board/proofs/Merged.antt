@@ -8,10 +8,10 @@ use lib.ListN.{length}
 use Rattle.rule.specs.Rule.{cuts}
 use Rattle.terms.specs.declared.Settings.{Settings}
 use Rattle.board.specs.declared.Verdict.the-variants.{Granted}
-use Rattle.board.specs.Segments.{segments}
+use Rattle.board.specs.Segments.{segments, segmentFits}
 use Rattle.board.specs.Bays.{bayOf, recordIn, Holds}
 use Rattle.board.specs.Merging.{judged, boardWalk}
-use Rattle.board.specs.Recording.{segmentFits, recordFits, segmentOf, recordAll}
+use Rattle.board.specs.Recording.{recordFits, segmentOf, recordAll}
 use Rattle.board.proofs.Reading.{merged}
 use Rattle.board.proofs.Accepted.{read-back}
 use Rattle.board.proofs.Orders.{then-held}

@@ -10,7 +10,7 @@ use lib.Dec.{leb, eqb}
 use lib.ListN.{length, take, drop, length-take, length-drop}
 use borrow.Author.Tests.{leb-true, leb-false, ltb-true, eqb-true, eqb-false}
 use Rattle.laws.specs.Over.{over}
-use Rattle.laws.proofs.Cases.{by-lt, by-test}
+use Rattle.laws.proofs.Cases.{by-lt, by-test, both-true}
 use Rattle.laws.proofs.Writing.{length-over}
 use Rattle.terms.specs.declared.Settings.{Settings}
 use Rattle.terms.specs.declared.Refusal.{Refusal}
@@ -19,12 +19,11 @@ use Rattle.terms.specs.Settings.{inRange}
 use Rattle.terms.specs.Answers.{longest}
 use Rattle.board.specs.declared.Verdict.{Verdict}
 use Rattle.board.specs.declared.Verdict.the-variants.{Granted, Denied}
-use Rattle.board.specs.Segments.{segments, sizeInRange}
+use Rattle.board.specs.Segments.{segments, sizeInRange, shapeFits, boardFits, segmentFits}
 use Rattle.board.specs.Records.{Record, entries, segmentRecord}
 use Rattle.board.specs.Bays.{bayOf, Holds}
 use Rattle.board.specs.Merging.{judged}
-use Rattle.board.specs.Recording.{bayFits, segmentFits, recordFits, recorded, withBay, segmentOf, segmentBoard, recordAll}
-use Rattle.board.proofs.Reading.{both}
+use Rattle.board.specs.Recording.{recordFits, recorded, withBay, segmentOf, segmentBoard, recordAll}
 use Rattle.board.proofs.Patches.{patched, length-patched, patches-commute, part-same, part-other}
 
 by-verdict : {C : Type 0} (v : Verdict) → (v ≡ Granted → C) → ((why : Refusal) → v ≡ Denied why → C) → C
@@ -61,17 +60,16 @@ pub record Shape (size width n i numbers : ℕ) : Type 0 where
   pub enough : segments size n * width ≤ numbers
 
 pub shape : (size width n i numbers : ℕ) → segmentFits size width n i numbers ≡ true → Shape size width n i numbers
-unfolding segmentFits bayFits sizeInRange
+unfolding segmentFits boardFits shapeFits sizeInRange
 shape size width n i numbers t =
-    let outer = both _ _ t in
-    let inner = both _ _ (outer .0) in
-    let sizes = both _ _ (inner .0) in
-    let rest = both _ _ (inner .1) in
+    let all = both-true t in
+    let board = both-true (all .0) in
+    let bay = both-true (board .0) in
     record {
-      sized = leb-true _ _ (sizes .0);
-      wide = leb-true _ _ (rest .0);
-      there = ltb-true _ _ (rest .1);
-      enough = leb-true _ _ (outer .1);
+      sized = leb-true _ _ (both-true (bay .0) .0);
+      wide = leb-true _ _ (bay .1);
+      there = ltb-true _ _ (all .1);
+      enough = leb-true _ _ (board .1);
     }
 
 pub granted : (s : Settings) (n : ℕ) (fits : Bool) → judged s n fits ≡ Granted → (inRange s ≡ true) × (leb n longest ≡ true) × (fits ≡ true)

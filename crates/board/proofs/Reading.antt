@@ -7,7 +7,7 @@ use native.Mathlib.Nat.{le-trans}
 use native.Mathlib.Omega.{arith}
 use lib.Dec.{leb, eqb}
 use borrow.Author.Tests.{le-leb, lt-leb, leb-true, leb-false, eq-eqb, ne-eqb}
-use Rattle.laws.proofs.Cases.{by-lt, by-test}
+use Rattle.laws.proofs.Cases.{by-lt, by-test, both-true}
 use Rattle.rule.specs.Rule.{hop, lastOr, closing, cuts, cutsFrom, cutsUpTo, Unmarked, NextCut, log-ends}
 use Rattle.rule.proofs.Next.{next-only}
 use Rattle.rule.proofs.Hops.{UpTo, past, leap, stands, hop-rises, hop-long, next-hop, hop-on, cuts-by-hops}
@@ -16,17 +16,12 @@ use Rattle.board.specs.Records.{Record, slowRecord, recordAfter, isMarke
 use Rattle.board.specs.Walk.{forcedUpTo, readAsMarks, bayCuts, baysCuts, walk}
 use Rattle.board.proofs.Marking.{Marks, none-left, then-mark, marks-in}
 use Rattle.board.proofs.Ranges.{reach, from-reach, to-reach, reach-none, reach-all, spans}
-use Rattle.board.proofs.Marker.{marked-not}
 use Rattle.board.proofs.Walking.{Walked, joined, to-last, idle, one-cut, one-pass, forced-walk, forced-none, read-mark, up-to-moved}
-
-pub both : (s t : Bool) → s && t ≡ true → (s ≡ true) × (t ≡ true)
-both true t e = (refl, e)
-both false t e = absurd (marked-not e refl)
 
 -- what the marker test says
 pub piece : (lo hi a b : ℕ) → isMarker lo hi a b ≡ true → (lo ≤ b - a) × (b - a ≤ hi - lo)
 unfolding isMarker
-piece lo hi a b t = let s = both _ _ t in (leb-true _ _ (s .0), leb-true _ _ (s .1))
+piece lo hi a b t = let s = both-true t in (leb-true _ _ (s .0), leb-true _ _ (s .1))
 
 module _ (mark : ℕ → Bool) (lo hi e : ℕ) where
   pub at-marker : (a b : ℕ) (marks : List ℕ) → isMarker lo hi a b ≡ true

@@ -5,6 +5,7 @@ use mathlib.Core.Path.{_≡_}
 use mathlib.Core.List.{List, [], _∷_, _++_}
 use lib.Dec.{leb, ltb, eqb}
 use lib.ListN.{length, getD, take, drop}
+use Rattle.lists.specs.WellFormed.{stepFits}
 use Rattle.board.specs.Segments.{segmentStart, segmentEnd}
 use Rattle.board.specs.Records.{Record, entries}
 
@@ -42,7 +43,7 @@ followers p (q ∷ offsets) = elim (eqb q p) [ true ↦ offsets | false ↦ foll
 -- every step from c on is between minimum and maximum
 unfoldable pub stepsWithin : ℕ → ℕ → ℕ → List ℕ → Bool
 stepsWithin minimum maximum c [] = true
-stepsWithin minimum maximum c (p ∷ offsets) = leb minimum (p - c) && (leb (p - c) maximum && stepsWithin minimum maximum p offsets)
+stepsWithin minimum maximum c (p ∷ offsets) = stepFits minimum maximum false c p && stepsWithin minimum maximum p offsets
 
 -- the marker is 0 or listed, and 0 in segment 0; steps from the marker on, in segment 0 from 0 on, are between minimum and maximum
 unfoldable pub markerFits : ℕ → ℕ → ℕ → Record → Bool

@@ -1,27 +1,19 @@
 -- What recording a segment answers and writes, over any marks: document 01, "Segments and the board" and "Numbers answered".
 use Prim.Native.Nat.{ℕ, _+_, _-_, _*_}
-use mathlib.Core.Bool.{Bool, true, false, _&&_}
+use mathlib.Core.Bool.{Bool, true, false}
 use mathlib.Core.List.{List, [], _∷_, _++_}
-use lib.Dec.{leb, ltb}
+use lib.Dec.{leb}
 use lib.ListN.{length, take, drop}
 use Rattle.laws.specs.Over.{over}
 use Rattle.terms.specs.declared.Refusal.the-variants.{RecordTooLong}
 use Rattle.terms.specs.declared.Answer.{Answer}
 use Rattle.terms.specs.declared.Answer.the-variants.{Wrote, Refused}
 use Rattle.terms.specs.declared.Settings.{Settings}
-use Rattle.board.specs.declared.Verdict.the-variants.{Granted, Denied}
-use Rattle.board.specs.Segments.{segments, sizeInRange}
+use Rattle.terms.specs.Answers.{unless}
+use Rattle.board.specs.Segments.{bayFits, segmentFits}
 use Rattle.board.specs.Records.{Record, entries, segmentRecord}
 use Rattle.board.specs.Bays.{bayOf}
-use Rattle.board.specs.Merging.{judged}
-
--- S and R in range, and such a segment
-unfoldable pub bayFits : ℕ → ℕ → ℕ → ℕ → Bool
-bayFits size width n i = sizeInRange size && (leb 2 width && ltb i (segments size n))
-
--- the same with a board of so many numbers, as long as the bays
-unfoldable pub segmentFits : ℕ → ℕ → ℕ → ℕ → ℕ → Bool
-segmentFits size width n i numbers = bayFits size width n i && leb (segments size n * width) numbers
+use Rattle.board.specs.Merging.{judged, ifGranted}
 
 -- the record is not longer than its bay
 unfoldable pub recordFits : Record → ℕ → Bool
@@ -29,12 +21,11 @@ recordFits r width = leb (length (r .offsets)) (width - 2)
 
 -- 2 plus the offsets, or row 6
 unfoldable pub recordAnswer : Record → ℕ → Answer
-recordAnswer r width = elim (recordFits r width) [ true ↦ Wrote (2 + length (r .offsets)) | false ↦ Refused RecordTooLong ]
+recordAnswer r width = unless (recordFits r width) (Refused RecordTooLong) (Wrote (2 + length (r .offsets)))
 
 -- the bay at exit: the record over its first entries; 6 sets entries 0 and 1 to 0 and fills the others with the record's first R - 2 offsets
 unfoldable pub recorded : Record → List ℕ → List ℕ
-recorded r bay =
-    elim (recordFits r (length bay)) [ true ↦ over (entries r) bay | false ↦ 0 ∷ 0 ∷ take (length bay - 2) (r .offsets) ]
+recorded r bay = unless (recordFits r (length bay)) (0 ∷ 0 ∷ take (length bay - 2) (r .offsets)) (over (entries r) bay)
 
 -- a board with bay i replaced
 unfoldable pub withBay : ℕ → ℕ → List ℕ → List ℕ → List ℕ
@@ -45,22 +36,19 @@ module _ (mark : ℕ → Bool) (s : Settings) (n size i : ℕ) where
   segmentOf = segmentRecord mark (s .minimum) (s .maximum) size n i
 
   -- recording into a bay that is lent alone: rows 1, 2, 7 and 6
-  unfoldable pub bayAnswer : List ℕ → Answer
-  bayAnswer bay =
-      elim (judged s n (bayFits size (length bay) n i)) [ Denied why ↦ Refused why | Granted ↦ recordAnswer segmentOf (length bay) ]
+  unfoldable pub bayAnswer : ℕ → Answer
+  bayAnswer width = ifGranted (judged s n (bayFits size width n i)) Refused (recordAnswer segmentOf width)
 
   unfoldable pub bayAfter : List ℕ → List ℕ
-  bayAfter bay = elim (judged s n (bayFits size (length bay) n i)) [ Denied why ↦ bay | Granted ↦ recorded segmentOf bay ]
+  bayAfter bay = ifGranted (judged s n (bayFits size (length bay) n i)) (λ _. bay) (recorded segmentOf bay)
 
   -- recording into bay i of a whole board: the same rows, and every other bay stays as it was
-  unfoldable pub segmentAnswer : ℕ → List ℕ → Answer
-  segmentAnswer width board =
-      elim (judged s n (segmentFits size width n i (length board))) [ Denied why ↦ Refused why | Granted ↦ recordAnswer segmentOf width ]
+  unfoldable pub segmentAnswer : ℕ → ℕ → Answer
+  segmentAnswer width numbers = ifGranted (judged s n (segmentFits size width n i numbers)) Refused (recordAnswer segmentOf width)
 
   unfoldable pub segmentBoard : ℕ → List ℕ → List ℕ
   segmentBoard width board =
-      elim (judged s n (segmentFits size width n i (length board)))
-      [ Denied why ↦ board | Granted ↦ withBay width i (recorded segmentOf (bayOf width board i)) board ]
+      ifGranted (judged s n (segmentFits size width n i (length board))) (λ _. board) (withBay width i (recorded segmentOf (bayOf width board i)) board)
 
 -- segment calls, one after the other, over one board
 unfoldable pub recordAll : (ℕ → Bool) → Settings → ℕ → ℕ → ℕ → List ℕ → List ℕ → List ℕ
