@@ -1,6 +1,7 @@
+pub mod BayTests
 pub mod Marking
 pub mod Marker
-pub mod Walking
+pub mod Following
 pub mod Ranges
 pub mod Reading
 pub mod Accepted

@@ -19,11 +19,12 @@ use Rattle.terms.specs.Settings.{inRange}
 use Rattle.terms.specs.Answers.{longest}
 use Rattle.board.specs.declared.Verdict.{Verdict}
 use Rattle.board.specs.declared.Verdict.the-variants.{Granted, Denied}
-use Rattle.board.specs.Segments.{segments, sizeInRange, shapeFits, boardFits, segmentFits}
+use Rattle.board.specs.Segments.{segments, boardFits, segmentFits}
 use Rattle.board.specs.Records.{Record, entries, segmentRecord}
 use Rattle.board.specs.Bays.{bayOf, Holds}
 use Rattle.board.specs.Merging.{judged}
 use Rattle.board.specs.Recording.{recordFits, recorded, withBay, segmentOf, segmentBoard, recordAll}
+use Rattle.board.proofs.Ranges.{bay-inside, BoardShape, board-shape}
 use Rattle.board.proofs.Patches.{patched, length-patched, patches-commute, part-same, part-other}
 
 by-verdict : {C : Type 0} (v : Verdict) → (v ≡ Granted → C) → ((why : Refusal) → v ≡ Denied why → C) → C
@@ -53,24 +54,9 @@ unfolding bayOf
 length-bay width i board h = rw (length-take, length-drop) (omega arith)
 
 -- what a granted call knows of its board
-pub record Shape (size width n i numbers : ℕ) : Type 0 where
-  pub sized : 64 ≤ size
-  pub wide : 2 ≤ width
-  pub there : i < segments size n
-  pub enough : segments size n * width ≤ numbers
-
-pub shape : (size width n i numbers : ℕ) → segmentFits size width n i numbers ≡ true → Shape size width n i numbers
-unfolding segmentFits boardFits shapeFits sizeInRange
-shape size width n i numbers t =
-    let all = both-true t in
-    let board = both-true (all .0) in
-    let bay = both-true (board .0) in
-    record {
-      sized = leb-true _ _ (both-true (bay .0) .0);
-      wide = leb-true _ _ (bay .1);
-      there = ltb-true _ _ (all .1);
-      enough = leb-true _ _ (board .1);
-    }
+pub shape : (size width n i numbers : ℕ) → segmentFits size width n i numbers ≡ true → BoardShape size width n numbers × (i < segments size n)
+unfolding segmentFits
+shape size width n i numbers t = let all = both-true t in (board-shape size width n numbers (all .0), ltb-true _ _ (all .1))
 
 pub granted : (s : Settings) (n : ℕ) (fits : Bool) → judged s n fits ≡ Granted → (inRange s ≡ true) × (leb n longest ≡ true) × (fits ≡ true)
 unfolding judged
@@ -81,10 +67,7 @@ granted s n fits v =
     (λ b. absurd (not-both {why = LogTooLong} (rw (a, b, judged)) v)))
     (λ a. absurd (not-both {why = SettingsOutOfRange} (rw (a, judged)) v))
 
--- bay i lies within the board, and bays of two segments do not meet
-pub bay-inside : (k width i numbers : ℕ) → i < k → k * width ≤ numbers → i * width + width ≤ numbers
-bay-inside k width i numbers h enough = omega (arith, mul-le-mul-right width h, suc-mul i width)
-
+-- bays of two segments do not meet
 pub bays-apart : (width i j : ℕ) → (i ≡ j → ⊥) → (i * width + width ≤ j * width) ⊎ (j * width + width ≤ i * width)
 bays-apart width i j other =
     by-lt i j
@@ -107,17 +90,17 @@ module _ (mark : ℕ → Bool) (s : Settings) (n size width : ℕ) where
   written i board = recorded (segmentOf mark s n size i) (bayOf width board i)
 
   module _ (i : ℕ) (board : List ℕ) (v : verdict i (length board) ≡ Granted) where
-    shaped : Shape size width n i (length board)
+    shaped : BoardShape size width n (length board) × (i < segments size n)
     shaped = shape size width n i (length board) (granted s n _ v .2)
 
     inside : i * width + width ≤ length board
-    inside = bay-inside (segments size n) width i (length board) (shaped .there) (shaped .enough)
+    inside = bay-inside (segments size n) width i (length board) (shaped .1) (shaped .0 .enough)
 
     length-written : length (written i board) ≡ width
     unfolding written
     length-written =
         let long : length (bayOf width board i) ≡ width = length-bay width i board inside in
-        length-recorded (segmentOf mark s n size i) (bayOf width board i) (rw long (shaped .wide)) ∙ long
+        length-recorded (segmentOf mark s n size i) (bayOf width board i) (rw long (shaped .0 .wide)) ∙ long
 
     granted-writes : call i board ≡ patched (i * width) (written i board) board
     unfolding segmentBoard withBay patched written

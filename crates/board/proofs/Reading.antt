@@ -16,7 +16,7 @@ use Rattle.board.specs.Records.{Record, slowRecord, recordAfter, isMarke
 use Rattle.board.specs.Walk.{forcedUpTo, readAsMarks, bayCuts, baysCuts, walk}
 use Rattle.board.proofs.Marking.{Marks, none-left, then-mark, marks-in}
 use Rattle.board.proofs.Ranges.{reach, from-reach, to-reach, reach-none, reach-all, spans}
-use Rattle.board.proofs.Walking.{Walked, joined, to-last, idle, one-cut, one-pass, forced-walk, forced-none, read-mark, up-to-moved}
+use Rattle.board.proofs.Following.{Walked, joined, to-last, idle, one-cut, one-pass, forced-walk, forced-none, read-mark, up-to-moved}
 
 -- what the marker test says
 pub piece : (lo hi a b : ℕ) → isMarker lo hi a b ≡ true → (lo ≤ b - a) × (b - a ≤ hi - lo)

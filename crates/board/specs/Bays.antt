@@ -1,5 +1,5 @@
 -- A bay read back: when it is done, and when it is malformed. Document 01, "Segments and the board".
-use Prim.Native.Nat.{ℕ, zero, suc, _+_, _-_, _*_}
+use Prim.Native.Nat.{ℕ, zero, suc, _+_, _-_, _*_, _≤_}
 use mathlib.Core.Bool.{Bool, true, false, _&&_, _||_, not}
 use mathlib.Core.Path.{_≡_}
 use mathlib.Core.List.{List, [], _∷_, _++_}
@@ -39,6 +39,12 @@ isListed p (q ∷ offsets) = elim (eqb q p) [ true ↦ true | false ↦ isListed
 unfoldable pub followers : ℕ → List ℕ → List ℕ
 followers p [] = []
 followers p (q ∷ offsets) = elim (eqb q p) [ true ↦ offsets | false ↦ followers p offsets ]
+
+-- k is the place where p is first listed, or the length where it is not
+pub record Place (p : ℕ) (offsets : List ℕ) (k : ℕ) : Type 0 where
+  pub among : k ≤ length offsets
+  pub listed : isListed p offsets ≡ ltb k (length offsets)
+  pub follow : followers p offsets ≡ drop (suc k) offsets
 
 -- every step from c on is between minimum and maximum
 unfoldable pub stepsWithin : ℕ → ℕ → ℕ → List ℕ → Bool

@@ -1,5 +1,5 @@
 -- Segments of a log of n bytes, and the board's shape: document 01, "Segments and the board".
-use Prim.Native.Nat.{ℕ, _+_, _-_, _*_, _/_, min}
+use Prim.Native.Nat.{ℕ, _+_, _-_, _*_, _/_, _^_, _≤_, _<_, min}
 use mathlib.Core.Bool.{Bool, _&&_}
 use lib.Dec.{leb, ltb}
 
@@ -34,3 +34,10 @@ bayFits size width n i = shapeFits size width && ltb i (segments size n)
 -- or both
 unfoldable pub segmentFits : ℕ → ℕ → ℕ → ℕ → ℕ → Bool
 segmentFits size width n i numbers = boardFits size width n numbers && ltb i (segments size n)
+
+-- segment i is there, in a log and at a size within their bounds
+pub record There (size n i : ℕ) : Type 0 where
+  pub large : 64 ≤ size
+  pub bounded : size ≤ 2 ^ 24
+  pub short : n ≤ 2 ^ 40
+  pub there : i < segments size n

@@ -1,6 +1,9 @@
 // Segments, the board and merging.
 use terms::Refusal;
 
+pub mod judging;
+pub mod shapes;
+
 // What judging comes to, before anything is written.
 pub enum Verdict {
     Granted,
