@@ -198,3 +198,7 @@ module _ (s : Settings) (size width n : ℕ) (board : List ℕ) (count i : ℕ) 
   pub judged-all : count ≤ i → baysJudged s size width n board (count - i) i ≡ Granted
   unfolding baysJudged
   judged-all h = let none : count - i ≡ 0 = omega arith in rw none
+
+pub judged-whole : (s : Settings) (size width n : ℕ) (board : List ℕ) {count k : ℕ} {v : Verdict} → count ≡ k
+    → baysJudged s size width n board count 0 ≡ v → v ≡ baysJudged s size width n board k 0
+judged-whole s size width n board e h = sym h ∙ ap (λ (j : ℕ). baysJudged s size width n board j 0) e

@@ -1,12 +1,12 @@
 -- `board::judging::judge_bays` meets its contract. The invariant: all bays are judged as those from bay i on are.
 use borrow.Author.Needs.{needs}
-use mathlib.Core.Path.{_≡_, refl, sym, ap, _∙_}
-use Prim.Native.Nat.{ℕ, _≤_, _-_}
+use mathlib.Core.Path.{_≡_, _∙_}
+use Prim.Native.Nat.{_≤_, _-_}
 use native.Mathlib.Nat.{sub-zero}
 use native.Mathlib.Omega.{arith}
 use Rattle.board.specs.Merging.{baysJudged}
 use Rattle.board.proofs.Ranges.{board-shape, bay-within, lent-length}
-use Rattle.board.proofs.BayTests.{judged-on, judged-denied, judged-all}
+use Rattle.board.proofs.BayTests.{judged-on, judged-denied, judged-all, judged-whole}
 use Rattle.board.proofs.judging.judge_bays.Statement.{statement}
 use Rattle.board.proofs.judging.judge_bays.Tie as tie
 
@@ -47,7 +47,7 @@ enum-known-why : tie.Need-enum-known-why Inv-loop μ-loop
 enum-known-why c = search needs
 
 returns : tie.Need-returns Inv-loop μ-loop
-returns c = sym (ap (λ (k : ℕ). baysJudged _ _ _ _ _ k 0) (sym (c .before .before .before .before .before .before .before .segments-of .ensures)) ∙ c .before .before .before .before .before .before .loop .inv .1 ∙ judged-denied _ _ _ _ _ _ _ (c .before .before .before .before .before .loop-test .taken) _ (c .before .before .before .judge-bay .ensures) _ (c .before .why .given .1))
+returns c = judged-whole _ _ _ _ _ (c .before .before .before .before .before .before .before .segments-of .ensures) (c .before .before .before .before .before .before .loop .inv .1 ∙ judged-denied _ _ _ _ _ _ _ (c .before .before .before .before .before .loop-test .taken) _ (c .before .before .before .judge-bay .ensures) _ (c .before .why .given .1))
 
 enum-told : tie.Need-enum-told Inv-loop μ-loop
 enum-told c = search needs
@@ -62,7 +62,7 @@ loop-again : tie.Need-loop-again Inv-loop μ-loop
 loop-again c = (search needs, c .before .before .before .before .before .loop .inv .1 ∙ judged-on _ _ _ _ _ _ _ (c .before .before .before .before .loop-test .taken) _ (c .before .before .judge-bay .ensures) (c .enum-told .given .1))
 
 returns-2 : tie.Need-returns-2 Inv-loop μ-loop
-returns-2 c = sym (ap (λ (k : ℕ). baysJudged _ _ _ _ _ k 0) (sym (c .before .before .segments-of .ensures)) ∙ c .before .loop .inv .1 ∙ judged-all _ _ _ _ _ _ _ (c .loop-test .left))
+returns-2 c = judged-whole _ _ _ _ _ (c .before .before .segments-of .ensures) (c .before .loop .inv .1 ∙ judged-all _ _ _ _ _ _ _ (c .loop-test .left))
 
 pub judge-bays-spec : {M : Type 1} → statement M
 judge-bays-spec =
