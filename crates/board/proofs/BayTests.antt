@@ -16,11 +16,8 @@ use Rattle.board.specs.declared.Verdict.{Verdict}
 use Rattle.board.specs.declared.Verdict.the-variants.{Granted, Denied}
 use Rattle.board.specs.Merging.{bayJudged, baysJudged, ifGranted}
 use Rattle.board.specs.Segments.{segmentStart, segmentEnd}
+use Rattle.board.proofs.Offsets.{and-false}
 use Rattle.board.specs.Bays.{bayOf, isDone, offsetCount, recordIn, isSound, risesWithin, stepsWithin, isListed, followers, markerFits, Place}
-
-and-false : (t : Bool) → t && false ≡ false
-and-false true = refl
-and-false false = refl
 
 module _ (before last : ℕ) (offsets : List ℕ) (k : ℕ) where
   pub rise-passed : k < length offsets → before < getD offsets k 0 → getD offsets k 0 ≤ last

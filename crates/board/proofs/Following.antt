@@ -12,9 +12,10 @@ use Rattle.rule.specs.Rule.{firstMark, hop, hops, lastOr, cutsUpTo, Unmarked}
 use Rattle.rule.proofs.First.{first-none}
 use Rattle.rule.proofs.Hops.{UpTo, past, leap, up-to, listed, stands, last-is, up-to-joined, hop-rises, hop-long, unmarked-before}
 use Rattle.board.specs.Records.{Record, slowRecord, recordAfter, isMarker, prepend}
-use Rattle.board.specs.Walk.{forcedUpTo, readAsMarks}
+use Rattle.board.specs.Walk.{forcedUpTo, readOffset, readAsMarks}
 use Rattle.board.proofs.Marking.{Marks, none-left, then-mark}
-use Rattle.board.proofs.Marker.{hop-to, marker-hop}
+use Rattle.board.proofs.Marker.{hop-to}
+use Rattle.board.proofs.Offsets.{and-false, forced-rises, forced-up-to, forced-last, offset-near, offset-far, read-on}
 
 -- a run of hops up to d is one up to any e between its last hop and the next
 pub up-to-moved : (hop : ℕ → ℕ) → ((c : ℕ) → c < hop c) → (d e : ℕ) {c m : ℕ} {l : List ℕ} → m ≤ e → e < hop m → UpTo hop d c l m → UpTo hop e c l m
@@ -35,9 +36,6 @@ module _ (mark : ℕ → Bool) (lo hi : ℕ) where
 module _ (mark : ℕ → Bool) (lo hi : ℕ) (positive : 0 < lo) (order : lo ≤ hi) where
   rises : (c : ℕ) → c < hop mark lo hi c
   rises = hop-rises mark lo hi positive order
-
-  forced-rises : (c : ℕ) → c < c + hi
-  forced-rises c = omega arith
 
   pub joined : {c d e m o : ℕ} {l k : List ℕ} → Walked mark lo hi c d l m → Walked mark lo hi m e k o → Walked mark lo hi c e (l ++ k) o
   joined v w =
@@ -81,7 +79,7 @@ module _ (mark : ℕ → Bool) (lo hi : ℕ) (positive : 0 < lo) (order : lo ≤
   forced-hops e u (past {c = c} b) = past (rises c)
   forced-hops e u (leap {c = c} {l = l} {m = m} b r) =
       let here : hop mark lo hi c ≡ c + hi = first-none mark (c + hi) (suc hi - lo) (c + lo) (λ q x y. u q x (omega arith)) in
-      let on : c + hi ≤ m = stands (λ (x : ℕ). x + hi) e forced-rises r .from-start in
+      let on : c + hi ≤ m = stands (λ (x : ℕ). x + hi) e (forced-rises hi (omega arith)) r .from-start in
       let rest : UpTo (hop mark lo hi) m (c + hi) l m = forced-hops e (λ q x y. u q (omega arith) y) r in
       subst (λ x. UpTo (hop mark lo hi) m c (x ∷ l) m) here
       (leap (rw here on) (subst (λ x. UpTo (hop mark lo hi) m x l m) (sym here) rest))
@@ -89,35 +87,33 @@ module _ (mark : ℕ → Bool) (lo hi : ℕ) (positive : 0 < lo) (order : lo ≤
   -- forced cuts up to e, and the next one would be past e
   pub forced-walk : (c e : ℕ) → c ≤ e → Unmarked mark (c + lo) (suc e)
       → Walked mark lo hi c e (forcedUpTo hi e c) (lastOr c (forcedUpTo hi e c)) × (e < lastOr c (forcedUpTo hi e c) + hi)
-  unfolding forcedUpTo
   forced-walk c e h u =
-      let r = up-to (λ (x : ℕ). x + hi) e forced-rises c in
-      let s = stands (λ (x : ℕ). x + hi) e forced-rises r in
-      let from : c ≤ lastOr c (hops (λ (x : ℕ). x + hi) e (e - c) c) = s .from-start in
-      (record { hopped = forced-hops e u r; reached = s .reached h; clear = λ q x y. u q (omega arith) y }, s .ahead)
+      let s = forced-last hi (omega arith) c e h in
+      (record { hopped = forced-hops e u (forced-up-to hi (omega arith) e c); reached = s .1; clear = λ q x y. u q (omega arith) y }, s .2)
 
-  pub forced-none : (c e : ℕ) → e < c + hi → forcedUpTo hi e c ≡ []
-  unfolding forcedUpTo
-  forced-none c e h = listed (λ (x : ℕ). x + hi) e forced-rises (past h)
+  -- an offset p that is the next mark is read
+  read-offset : (c p : ℕ) → c < p → mark p ≡ true → Unmarked mark (c + lo) p
+      → (m : ℕ) × Walked mark lo hi c p (readOffset lo hi c p) m × (p < m + lo)
+  read-offset c p above marked free =
+      let f = forced-walk c (p - 1) (omega arith) (λ q x y. free q x (omega arith)) in
+      let m : ℕ = lastOr c (forcedUpTo hi (p - 1) c) in
+      let under : m ≤ p - 1 = f .0 .reached in
+      let near : p - 1 < m + hi = f .1 in
+      by-lt p (m + lo)
+      (λ close. (m, rw (offset-near lo hi c p close) (record { hopped = f .0 .hopped; reached = omega arith; clear = λ q x y. absurd (omega arith) }), close))
+      (λ far. (p, rw (offset-far lo hi c p far)
+      (joined (f .0) (one-cut m p far (omega arith) marked (λ q x y. f .0 .clear q x (omega arith)))), omega arith))
 
-  module _ (marker : ℕ) where
-    -- an offset p that is the next mark, not the marker, is read, and then the offsets after it
-    pub read-mark : (a e c p : ℕ) (offsets : List ℕ) → c ≤ a → a < p → p ≤ e → mark p ≡ true → Unmarked mark (c + lo) (suc a) → Unmarked mark (suc a) p
-        → eqb p marker ≡ false
-        → ((d : ℕ) → d ≤ p → p < d + lo → (m : ℕ) × Walked mark lo hi d e (readAsMarks lo hi marker d offsets) m)
-        → (m : ℕ) × Walked mark lo hi c e (readAsMarks lo hi marker c (p ∷ offsets)) m
-    unfolding readAsMarks
-    read-mark a e c p offsets below above inside marked clear unmarked other rest =
-        let free : Unmarked mark (c + lo) p = λ q x y. by-lt a q (λ h. unmarked q h y) (λ h. clear q x (omega arith)) in
-        let f = forced-walk c (p - 1) (omega arith) (λ q x y. free q x (omega arith)) in
-        let m : ℕ = lastOr c (forcedUpTo hi (p - 1) c) in
-        let under : m ≤ p - 1 = f .0 .reached in
-        let near : p - 1 < m + hi = f .1 in
-        by-lt p (m + lo)
-        (λ close. let w = rest m (omega arith) close in
-        (w .0, rw (lt-leb (m + lo) p close, readAsMarks) (joined (f .0) (w .1))))
-        (λ far. let w = rest p (omega arith) (omega arith) in (
-          w .0,
-          rw (le-leb (m + lo) p far, other, readAsMarks)
-              (joined (f .0) (joined (one-cut m p far (omega arith) marked (λ q x y. f .0 .clear q x (omega arith))) (w .1))),
-        ))
+  -- and then, if it is not the marker, the offsets after it
+  pub read-mark : (marker a e c p : ℕ) (offsets : List ℕ) → c ≤ a → a < p → p ≤ e → mark p ≡ true → Unmarked mark (c + lo) (suc a) → Unmarked mark (suc a) p
+      → eqb p marker ≡ false
+      → ((d : ℕ) → d ≤ p → p < d + lo → (m : ℕ) × Walked mark lo hi d e (readAsMarks lo hi marker d offsets) m)
+      → (m : ℕ) × Walked mark lo hi c e (readAsMarks lo hi marker c (p ∷ offsets)) m
+  read-mark marker a e c p offsets under above inside marked clear unmarked other rest =
+      let free : Unmarked mark (c + lo) p = λ q x y. by-lt a q (λ h. unmarked q h y) (λ h. clear q x (omega arith)) in
+      let o = read-offset c p (omega arith) marked free in
+      let w = to-last (o .1) in
+      let at : lastOr c (readOffset lo hi c p) ≡ o .0 = last-is (o .1 .hopped) in
+      let after = rest (lastOr c (readOffset lo hi c p)) (w .reached) (omega (arith, o .2)) in
+      let test : eqb (lastOr c (readOffset lo hi c p)) p && eqb p marker ≡ false = rw other (and-false (eqb (lastOr c (readOffset lo hi c p)) p)) in
+      (after .0, rw (read-on lo hi c p marker offsets test) (joined w (after .1)))

@@ -1,3 +1,4 @@
+pub mod Offsets
 pub mod BayTests
 pub mod Marking
 pub mod Marker
@@ -8,3 +9,5 @@ pub mod Accepted
 pub mod Patches
 pub mod Orders
 pub mod Merged
+pub mod Putting
+pub mod Rises

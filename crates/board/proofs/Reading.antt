@@ -13,10 +13,11 @@ use Rattle.rule.proofs.Next.{next-only}
 use Rattle.rule.proofs.Hops.{UpTo, past, leap, stands, hop-rises, hop-long, next-hop, hop-on, cuts-by-hops}
 use Rattle.board.specs.Segments.{segments, segmentStart, segmentEnd}
 use Rattle.board.specs.Records.{Record, slowRecord, recordAfter, isMarker, prepend, segmentRecord}
-use Rattle.board.specs.Walk.{forcedUpTo, readAsMarks, bayCuts, baysCuts, walk}
+use Rattle.board.specs.Walk.{forcedUpTo, readOffset, readAsMarks, bayCuts, baysCuts, walk}
 use Rattle.board.proofs.Marking.{Marks, none-left, then-mark, marks-in}
+use Rattle.board.proofs.Offsets.{forced-none, offset-far, read-switch}
 use Rattle.board.proofs.Ranges.{reach, from-reach, to-reach, reach-none, reach-all, spans}
-use Rattle.board.proofs.Following.{Walked, joined, to-last, idle, one-cut, one-pass, forced-walk, forced-none, read-mark, up-to-moved}
+use Rattle.board.proofs.Following.{Walked, joined, to-last, idle, one-cut, one-pass, forced-walk, read-mark, up-to-moved}
 
 -- what the marker test says
 pub piece : (lo hi a b : ℕ) → isMarker lo hi a b ≡ true → (lo ≤ b - a) × (b - a ≤ hi - lo)
@@ -45,8 +46,10 @@ module _ (mark : ℕ → Bool) (lo hi e : ℕ) where
 
 -- the marker, cut with nothing forced before it: all offsets after it are cuts
 read-marker : (lo hi c b : ℕ) (offsets : List ℕ) → forcedUpTo hi (b - 1) c ≡ [] → c + lo ≤ b → readAsMarks lo hi b c (b ∷ offsets) ≡ b ∷ offsets
-unfolding readAsMarks lastOr
-read-marker lo hi c b offsets none far = rw (none, le-leb (c + lo) b far, eq-eqb b b refl, readAsMarks)
+unfolding lastOr
+read-marker lo hi c b offsets none far =
+    let made : readOffset lo hi c b ≡ b ∷ [] = offset-far lo hi c b (rw none far) ∙ rw none in
+    read-switch lo hi c b b offsets (rw (made, eq-eqb b b refl)) ∙ rw made
 
 module _ (mark : ℕ → Bool) (lo hi : ℕ) (positive : 0 < lo) (order : lo ≤ hi) (e : ℕ) where
   -- what a walk from the cut d makes of a record
@@ -61,7 +64,7 @@ module _ (mark : ℕ → Bool) (lo hi : ℕ) (positive : 0 < lo) (order : lo ≤
       by-test (isMarker lo hi a b)
       (λ t. rw (at-marker mark lo hi e a b marks t)
       (let far = piece lo hi a b t in
-      let none : forcedUpTo hi (b - 1) c ≡ [] = forced-none mark lo hi positive order c (b - 1) (omega arith) in
+      let none : forcedUpTo hi (b - 1) c ≡ [] = forced-none hi (omega arith) c (b - 1) (omega arith) in
       let w = joined mark lo hi positive order
       (one-cut mark lo hi positive order c b (omega arith) (omega arith) marked (λ q x y. u q (omega arith) y))
       (one-pass mark lo hi positive order b e within) in

@@ -1,27 +1,34 @@
 -- Merging: the walk over the bays, from cut 0. Document 01, "Segments and the board".
-use Prim.Native.Nat.{ℕ, zero, suc, _+_, _-_}
-use mathlib.Core.Bool.{Bool, true, false}
+use Prim.Native.Nat.{ℕ, zero, suc, _+_, _-_, _≤_}
+use mathlib.Core.Path.{_≡_}
+use mathlib.Core.Bool.{Bool, true, false, _&&_}
 use mathlib.Core.List.{List, [], _∷_, _++_}
 use lib.Dec.{leb, eqb}
+use lib.ListN.{length}
+use lib.Seq.{sets}
 use Rattle.rule.specs.Rule.{hops, lastOr, closing}
+use Rattle.board.specs.declared.walk.Made.{Made}
 use Rattle.board.specs.Records.{Record}
 
 -- the cuts that maximum forces after the cut c, up to e, where there is no mark
 unfoldable pub forcedUpTo : ℕ → ℕ → ℕ → List ℕ
 forcedUpTo maximum e c = hops (λ (x : ℕ). x + maximum) e (e - c) c
 
--- from the cut c on, the offsets read as marks under the one-pass rule: cuts are forced below an offset, and it is a cut itself if it is
--- far enough; once a cut made equals the marker, the later offsets are cuts
+-- from the cut c on, one offset read as a mark under the one-pass rule: cuts are forced below it, and it is a cut itself if it is far enough
+unfoldable pub readOffset : ℕ → ℕ → ℕ → ℕ → List ℕ
+readOffset minimum maximum c p =
+    let below = forcedUpTo maximum (p - 1) c in
+    below ++ elim (leb (lastOr c below + minimum) p) [ true ↦ p ∷ [] | false ↦ [] ]
+
+-- offsets read as marks until a cut made equals the marker; then the later offsets are cuts
 unfoldable pub readAsMarks : ℕ → ℕ → ℕ → ℕ → List ℕ → List ℕ
 readAsMarks minimum maximum marker c [] = []
 readAsMarks minimum maximum marker c (p ∷ offsets) =
-    let below = forcedUpTo maximum (p - 1) c in
-    let last = lastOr c below in
-    below
-    ++ elim (leb (last + minimum) p) [
-      | true ↦ p ∷ elim (eqb p marker) [ true ↦ offsets | false ↦ readAsMarks minimum maximum marker p offsets ]
-      | false ↦ readAsMarks minimum maximum marker last offsets
-    ]
+    let made = readOffset minimum maximum c p in
+    let cut = lastOr c made in
+    made
+    ++ elim (eqb cut p && eqb p marker)
+    [ true ↦ offsets | false ↦ readAsMarks minimum maximum marker cut offsets ]
 
 -- the cuts made in bay i from the cut c on: segment 0's offsets are cuts
 unfoldable pub bayCuts : ℕ → ℕ → ℕ → ℕ → Record → List ℕ
@@ -40,3 +47,10 @@ module _ (minimum maximum : ℕ) (bay : ℕ → Record) where
       let made = baysCuts k 0 0 in
       let rest = forcedUpTo maximum n (lastOr 0 made) in
       made ++ (rest ++ closing n (lastOr (lastOr 0 made) rest))
+
+-- what a step of merging leaves that starts from the cuts `before`: these cuts are made, and written from the next place on as far as the list goes
+pub record Puts (cuts : List ℕ) (before after : Made) (list₀ list : List ℕ) : Type 0 where
+  pub counted : after .count ≡ before .count + length cuts
+  pub last : after .cut ≡ lastOr (before .cut) cuts
+  pub kept : list ≡ sets list₀ (before .count) cuts
+  pub behind : after .count ≤ after .cut

@@ -3,6 +3,7 @@ use terms::Refusal;
 
 pub mod judging;
 pub mod shapes;
+pub mod walk;
 
 // What judging comes to, before anything is written.
 pub enum Verdict {
