@@ -101,8 +101,12 @@ module _ (mark : ℕ → Bool) (lo hi : ℕ) (positive : 0 < lo) (order : lo ≤
       let near : p - 1 < m + hi = f .1 in
       by-lt p (m + lo)
       (λ close. (m, rw (offset-near lo hi c p close) (record { hopped = f .0 .hopped; reached = omega arith; clear = λ q x y. absurd (omega arith) }), close))
-      (λ far. (p, rw (offset-far lo hi c p far)
-      (joined (f .0) (one-cut m p far (omega arith) marked (λ q x y. f .0 .clear q x (omega arith)))), omega arith))
+      (λ far. (
+        p,
+        rw (offset-far lo hi c p far)
+            (joined (f .0) (one-cut m p far (omega arith) marked (λ q x y. f .0 .clear q x (omega arith)))),
+        omega arith,
+      ))
 
   -- and then, if it is not the marker, the offsets after it
   pub read-mark : (marker a e c p : ℕ) (offsets : List ℕ) → c ≤ a → a < p → p ≤ e → mark p ≡ true → Unmarked mark (c + lo) (suc a) → Unmarked mark (suc a) p

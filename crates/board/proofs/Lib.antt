@@ -11,3 +11,4 @@ pub mod Orders
 pub mod Merged
 pub mod Putting
 pub mod Rises
+pub mod Walks

@@ -91,3 +91,11 @@ ended {whole} {before} {list₀} {count} {cut} {list} u =
     let all : u .done ≡ whole = sym (u .joins ∙ append-nil (u .done)) in
     subst (λ w. Puts w before (record { count = count; cut = cut }) list₀ list) all
     (record { counted = u .counted; last = u .last; kept = u .kept; behind = u .behind })
+
+-- all that was left is made at once
+pub all-made : {whole rest lent : List ℕ} {before after from : Made} {list₀ list list′ : List ℕ} → Underway whole rest before list₀ (from .count) (from .cut) list → lent ≡ rest
+    → Puts lent from after list list′ → Puts whole before after list₀ list′
+all-made {rest = rest} u e p = ended (more _ (rest-is _ (sym (append-nil rest) ∙ ap (λ (l : List ℕ). l ++ []) (sym e)) u) refl refl p)
+
+pub puts-long : {cuts : List ℕ} {before after : Made} {list₀ list : List ℕ} → Puts cuts before after list₀ list → length list ≡ length list₀
+puts-long {cuts} {before} {list₀ = list₀} p = ap length (p .kept) ∙ length-sets list₀ (before .count) cuts
