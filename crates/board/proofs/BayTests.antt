@@ -173,18 +173,19 @@ pub not-done : (bay : List ℕ) → getD bay 0 0 ≡ 0 → isDone bay ≡ false
 unfolding isDone
 not-done bay h = le-ltb 0 (getD bay 0 0) (omega arith)
 
--- the bays from bay i on, of so many, as the code judges them; bay i as the code lends it
-module _ (s : Settings) (size width n : ℕ) (board : List ℕ) (count i : ℕ) where
-  bay-lent : take (i * width + width - i * width) (drop (i * width) board) ≡ bayOf width board i
-  unfolding bayOf
-  bay-lent = let same : i * width + width - i * width ≡ width = omega arith in ap (λ (k : ℕ). take k (drop (i * width) board)) same
+-- bay i as the code lends it
+pub bay-lent : (width : ℕ) (board : List ℕ) (i : ℕ) → take (i * width + width - i * width) (drop (i * width) board) ≡ bayOf width board i
+unfolding bayOf
+bay-lent width board i = let same : i * width + width - i * width ≡ width = omega arith in ap (λ (k : ℕ). take k (drop (i * width) board)) same
 
+-- the bays from bay i on, of so many, as the code judges them
+module _ (s : Settings) (size width n : ℕ) (board : List ℕ) (count i : ℕ) where
   module _ (h : i < count) (v : Verdict) (told : v ≡ bayJudged s size n i (take (i * width + width - i * width) (drop (i * width) board))) where
     opened : baysJudged s size width n board (count - i) i ≡ ifGranted v Denied (baysJudged s size width n board (count - (i + 1)) (i + 1))
     unfolding baysJudged
     opened =
         let left : count - i ≡ suc (count - (i + 1)) = omega arith in
-        rw (left, told, bay-lent, add-one)
+        rw (left, told, bay-lent width board i, add-one)
 
     pub judged-on : v ≡ Granted → baysJudged s size width n board (count - i) i ≡ baysJudged s size width n board (count - (i + 1)) (i + 1)
     judged-on e = opened ∙ rw e

@@ -7,7 +7,9 @@ pub mod Ranges
 pub mod Reading
 pub mod Accepted
 pub mod Patches
+pub mod Verdicts
 pub mod Orders
+pub mod BayWalks
 pub mod Merged
 pub mod Putting
 pub mod Rises

@@ -14,9 +14,6 @@ use Rattle.laws.proofs.Cases.{by-lt, by-test, both-true}
 use Rattle.laws.proofs.Writing.{length-over}
 use Rattle.terms.specs.declared.Settings.{Settings}
 use Rattle.terms.specs.declared.Refusal.{Refusal}
-use Rattle.terms.specs.declared.Refusal.the-variants.{SettingsOutOfRange, LogTooLong, NoSuchSegment}
-use Rattle.terms.specs.Settings.{inRange}
-use Rattle.terms.specs.Answers.{longest}
 use Rattle.board.specs.declared.Verdict.{Verdict}
 use Rattle.board.specs.declared.Verdict.the-variants.{Granted, Denied}
 use Rattle.board.specs.Segments.{segments, boardFits, segmentFits}
@@ -24,18 +21,12 @@ use Rattle.board.specs.Records.{Record, entries, segmentRecord}
 use Rattle.board.specs.Bays.{bayOf, Holds}
 use Rattle.board.specs.Merging.{judged}
 use Rattle.board.specs.Recording.{recordFits, recorded, withBay, segmentOf, segmentBoard, recordAll}
+use Rattle.board.proofs.Verdicts.{by-verdict, granted}
 use Rattle.board.proofs.Ranges.{bay-inside, BoardShape, board-shape}
 use Rattle.board.proofs.Patches.{patched, length-patched, patches-commute, part-same, part-other}
 
-by-verdict : {C : Type 0} (v : Verdict) → (v ≡ Granted → C) → ((why : Refusal) → v ≡ Denied why → C) → C
-by-verdict Granted f g = f refl
-by-verdict (Denied why) f g = g why refl
-
 by-same : {C : Type 0} (i j : ℕ) → (i ≡ j → C) → ((i ≡ j → ⊥) → C) → C
 by-same i j f g = by-test (eqb i j) (λ t. f (eqb-true i j t)) (λ t. g (eqb-false i j t))
-
-not-both : {v : Verdict} {why : Refusal} → v ≡ Denied why → v ≡ Granted → ⊥
-not-both p q = let z : _≡_ {A = ℕ} 0 1 = cc in omega arith
 
 -- a record leaves its bay as long as it was, and where it fits it is there
 pub length-recorded : (r : Record) (bay : List ℕ) → 2 ≤ length bay → length (recorded r bay) ≡ length bay
@@ -57,15 +48,6 @@ length-bay width i board h = rw (length-take, length-drop) (omega arith)
 pub shape : (size width n i numbers : ℕ) → segmentFits size width n i numbers ≡ true → BoardShape size width n numbers × (i < segments size n)
 unfolding segmentFits
 shape size width n i numbers t = let all = both-true t in (board-shape size width n numbers (all .0), ltb-true _ _ (all .1))
-
-pub granted : (s : Settings) (n : ℕ) (fits : Bool) → judged s n fits ≡ Granted → (inRange s ≡ true) × (leb n longest ≡ true) × (fits ≡ true)
-unfolding judged
-granted s n fits v =
-    by-test (inRange s)
-    (λ a. by-test (leb n longest)
-    (λ b. by-test fits (λ c. (a, b, c)) (λ c. absurd (not-both {why = NoSuchSegment} (rw (a, b, c, judged)) v)))
-    (λ b. absurd (not-both {why = LogTooLong} (rw (a, b, judged)) v)))
-    (λ a. absurd (not-both {why = SettingsOutOfRange} (rw (a, judged)) v))
 
 -- bays of two segments do not meet
 pub bays-apart : (width i j : ℕ) → (i ≡ j → ⊥) → (i * width + width ≤ j * width) ⊎ (j * width + width ≤ i * width)

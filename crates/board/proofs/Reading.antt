@@ -13,7 +13,7 @@ use Rattle.rule.proofs.Next.{next-only}
 use Rattle.rule.proofs.Hops.{UpTo, past, leap, stands, hop-rises, hop-long, next-hop, hop-on, cuts-by-hops}
 use Rattle.board.specs.Segments.{segments, segmentStart, segmentEnd}
 use Rattle.board.specs.Records.{Record, slowRecord, recordAfter, isMarker, prepend, segmentRecord}
-use Rattle.board.specs.Walk.{forcedUpTo, readOffset, readAsMarks, bayCuts, baysCuts, walk}
+use Rattle.board.specs.Walk.{forcedUpTo, readOffset, readAsMarks, bayCuts, baysCuts, lastCuts, walk}
 use Rattle.board.proofs.Marking.{Marks, none-left, then-mark, marks-in}
 use Rattle.board.proofs.Offsets.{forced-none, offset-far, read-switch}
 use Rattle.board.proofs.Ranges.{reach, from-reach, to-reach, reach-none, reach-all, spans}
@@ -129,7 +129,7 @@ module _ (mark : ℕ → Bool) (lo hi : ℕ) (positive : 0 < lo) (order : lo ≤
 
     -- the walk's list is the log's
     pub merged : walk lo hi bay (segments size n) n ≡ cuts mark lo hi n
-    unfolding walk
+    unfolding walk lastCuts
     merged =
         let w = read-bays (segments size n) 0 0 (omega arith) (omega arith) (λ q x y. absurd (omega (arith, reach-none size n sized))) in
         let made : List ℕ = baysCuts lo hi bay (segments size n) 0 0 in

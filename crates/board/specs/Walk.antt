@@ -35,18 +35,19 @@ unfoldable pub bayCuts : ℕ → ℕ → ℕ → ℕ → Record → List ℕ
 bayCuts minimum maximum zero c r = r .offsets
 bayCuts minimum maximum (suc i) c r = readAsMarks minimum maximum (r .marker) c (r .offsets)
 
+-- from the last bay's last cut c on: at the end n is added as the rule says
+unfoldable pub lastCuts : ℕ → ℕ → ℕ → List ℕ
+lastCuts maximum n c = let rest = forcedUpTo maximum n c in rest ++ closing n (lastOr c rest)
+
 module _ (minimum maximum : ℕ) (bay : ℕ → Record) where
   -- the cuts made in the k bays from bay i on
   unfoldable pub baysCuts : ℕ → ℕ → ℕ → List ℕ
   baysCuts zero i c = []
   baysCuts (suc k) i c = let made = bayCuts minimum maximum i c (bay i) in made ++ baysCuts k (suc i) (lastOr c made)
 
-  -- the list of a log of n bytes and k segments: at the end n is added as the rule says
+  -- the list of a log of n bytes and k segments
   unfoldable pub walk : ℕ → ℕ → List ℕ
-  walk k n =
-      let made = baysCuts k 0 0 in
-      let rest = forcedUpTo maximum n (lastOr 0 made) in
-      made ++ (rest ++ closing n (lastOr (lastOr 0 made) rest))
+  walk k n = let made = baysCuts k 0 0 in made ++ lastCuts maximum n (lastOr 0 made)
 
 -- what a step of merging leaves that starts from the cuts `before`: these cuts are made, and written from the next place on as far as the list goes
 pub record Puts (cuts : List ℕ) (before after : Made) (list₀ list : List ℕ) : Type 0 where
