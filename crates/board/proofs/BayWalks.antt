@@ -69,6 +69,7 @@ module _ (lo hi i : ℕ) (bay : List ℕ) {before after : Made} {list₀ list : 
     where
       at-bay : Puts (readAsMarks lo hi (recordIn bay .marker) (before .cut) (recordIn bay .offsets)) before after list₀ list
       at-bay = unfold recordIn in (rw (lent-offsets bay) at p)
+
       go : (j : ℕ) → (j ≡ 0 → ⊥) → Puts (bayCuts lo hi j (before .cut) (recordIn bay)) before after list₀ list
       go zero h = absurd (h refl)
       go (suc j) h = unfold bayCuts in at-bay
@@ -115,11 +116,14 @@ module _ (s : Settings) (n size width : ℕ) (board : List ℕ) (sized : 0 < siz
   lent-ready i c h low fits wide =
       let j = judged-bay i h in
       let long : 2 ≤ length (take (i * width + width - i * width) (drop (i * width) board)) = lent-length width board i fits wide in
-      let same = sym (bay-lent width board i) in
-      ((long,
-      subst (λ b. isDone b ≡ true) same (j .done),
-      subst (λ b. offsetCount b ≤ length b - 2) same (j .few)),
-      subst (λ b. risesWithin c (2 ^ 40) (recordIn b .offsets) ≡ true) same (bay-ready i c h low))
+      let same = sym (bay-lent width board i) in (
+        (
+          long,
+          subst (λ b. isDone b ≡ true) same (j .done),
+          subst (λ b. offsetCount b ≤ length b - 2) same (j .few),
+        ),
+        subst (λ b. risesWithin c (2 ^ 40) (recordIn b .offsets) ≡ true) same (bay-ready i c h low),
+      )
 
   pub low-after : (i c : ℕ) → i < segments size n → c ≤ reach size n i
       → lastOr c (bayCuts (s .minimum) (s .maximum) i c (recordIn (bayOf width board i))) ≤ reach size n (suc i)
@@ -172,3 +176,20 @@ module _ {lo hi n size width : ℕ} {board : List ℕ} {count : ℕ} {made₀ : 
   all-walked h k e =
       let none : count - i ≡ 0 = omega (arith, w .passed) in
       subst (λ x. Puts (baysCuts lo hi (λ j. recordIn (bayOf width board j)) x 0 (made₀ .cut)) made₀ made list₀ list) e (ended (rest-is _ (rw none) (w .way)))
+
+-- the bays, then the end: the whole walk
+module _ (s : Settings) (n size width : ℕ) (board : List ℕ) {made after : Made} {list₀ list list′ : List ℕ}
+    (bays : Puts (baysCuts (s .minimum) (s .maximum) (λ j. recordIn (bayOf width board j)) (segments size n) 0 0) (record { count = 0; cut = 0 }) made list₀ list)
+    (last : Puts (lastCuts (s .maximum) n (made .cut)) made after list list′) where
+  pub walked : Puts (boardWalk s n size width board) (record { count = 0; cut = 0 }) after list₀ list′
+  unfolding boardWalk walk
+  walked =
+      let cuts : List ℕ = baysCuts (s .minimum) (s .maximum) (λ j. recordIn (bayOf width board j)) (segments size n) 0 0 in
+      let u = more cuts (begin (cuts ++ lastCuts (s .maximum) n (lastOr 0 cuts)) (record { count = 0; cut = 0 }) list₀ (omega arith)) refl refl bays in
+      all-made u (ap (lastCuts (s .maximum) n) (bays .last)) last
+
+  pub walk-counted : after .count ≡ length (boardWalk s n size width board)
+  walk-counted = walked .counted ∙ zero-add (length (boardWalk s n size width board))
+
+  pub walk-written : list′ ≡ writtenList (boardWalk s n size width board) list₀
+  walk-written = walked .kept ∙ sets-written list₀ (boardWalk s n size width board)

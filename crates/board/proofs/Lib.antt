@@ -10,6 +10,7 @@ pub mod Patches
 pub mod Verdicts
 pub mod Orders
 pub mod BayWalks
+pub mod Merges
 pub mod Merged
 pub mod Putting
 pub mod Rises

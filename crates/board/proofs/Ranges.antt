@@ -53,6 +53,10 @@ bay-within {size} {width} {n} {numbers} shape i count e h = bay-inside (segments
 unfoldable pub reach : ℕ → ℕ → ℕ → ℕ
 reach size n i = min (i * size) n
 
+pub reach-within : (size n i : ℕ) → reach size n i ≤ n
+unfolding reach
+reach-within size n i = omega arith
+
 module _ (size n : ℕ) (positive : 0 < size) where
   pub starts : (i : ℕ) → i < segments size n → segmentStart size i < n
   unfolding segments segmentStart

@@ -2,6 +2,7 @@
 use terms::Refusal;
 
 pub mod judging;
+pub mod merging;
 pub mod shapes;
 pub mod walk;
 

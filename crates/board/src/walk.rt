@@ -129,6 +129,7 @@ fn walk_bays(
     requires { ⌜ (inRange settings ≡ true) × (n ≤ 2 ^ 40) × (boardFits size width n (length (now board)) ≡ true) ⌝ }
     requires { ⌜ baysJudged settings size width n (now board) (segments size n) 0 ≡ Granted ⌝ }
     ensures { λ r. ⌜ Puts (baysCuts (settings .minimum) (settings .maximum) (λ i. recordIn (bayOf width (now (board .entry)) i)) (segments size n) 0 0) (record { count = 0; cut = 0 }) r (now (list .entry)) (now (list .exit)) ⌝ }
+    ensures { λ r. ⌜ r .cut ≤ n ⌝ }
 {
     let count = super::shapes::segments_of(size, n);
     let minimum = settings.minimum;
@@ -137,7 +138,14 @@ fn walk_bays(
     let mut i = 0;
     while i < count {
         let start = (i * width) as usize;
-        made = walk_bay(list, made, i, &board[start..start + width as usize], minimum, maximum);
+        made = walk_bay(
+            list,
+            made,
+            i,
+            &board[start..start + width as usize],
+            minimum,
+            maximum,
+        );
         i += 1;
     }
     made

@@ -3,7 +3,7 @@ use borrow.Author.Needs.{needs}
 use Prim.Native.Nat.{_-_}
 use native.Mathlib.Omega.{arith}
 use Rattle.terms.proofs.Ranges.{ranges}
-use Rattle.board.proofs.Ranges.{board-shape, bay-within}
+use Rattle.board.proofs.Ranges.{board-shape, bay-within, reach-within}
 use Rattle.board.proofs.BayWalks.{Walking, start, next-bay, all-walked, lent-ready, low-after}
 use Rattle.board.proofs.Putting.{same-long}
 use Rattle.board.proofs.walk.walk_bays.Statement.{statement}
@@ -55,7 +55,7 @@ same-length : tie.Need-same-length Inv-loop μ-loop
 same-length c = same-long (c .before .loop .inv .way)
 
 returns : tie.Need-returns Inv-loop μ-loop
-returns c = all-walked (c .before .loop .inv) (c .loop-test .left) _ (c .before .before .segments-of .ensures)
+returns c = (all-walked (c .before .loop .inv) (c .loop-test .left) _ (c .before .before .segments-of .ensures), omega (arith, c .before .loop .inv .low, reach-within (c .before .before .before .before .before .args .size) (c .before .before .before .before .before .args .n) (c .before .loop .i)))
 
 pub walk-bays-spec : {M : Type 1} → statement M
 walk-bays-spec =
