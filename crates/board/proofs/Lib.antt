@@ -11,6 +11,7 @@ pub mod Verdicts
 pub mod Orders
 pub mod BayWalks
 pub mod Merges
+pub mod Stretching
 pub mod Merged
 pub mod Putting
 pub mod Rises

@@ -3,6 +3,7 @@ use terms::Refusal;
 
 pub mod judging;
 pub mod merging;
+pub mod recording;
 pub mod shapes;
 pub mod walk;
 

@@ -1,0 +1,91 @@
+// Recording a segment: its stretch of the log is rolled through from its lead-in on. Inside, offsets count from the stretch's first byte.
+ghost use mathlib.Core.Path.{_≡_};
+ghost use mathlib.Core.Bool.{Bool, true};
+ghost use Prim.Native.Nat.{_+_, _-_, _≤_, _<_, _^_};
+ghost use lib.ListN.{length};
+ghost use Rattle.signature.specs.Signatures.{signatureOf, window, leavingTable, pushedTable};
+ghost use Rattle.terms.specs.Settings.{inRange};
+ghost use Rattle.rule.specs.Rule.{cutsUpTo};
+ghost use Rattle.cutting.specs.Marks.{mark};
+ghost use Rattle.board.specs.Walk.{Puts};
+ghost use Rattle.board.specs.Stretches.{markFrom, Seek, Hops};
+use super::walk::Made;
+use terms::Settings;
+
+// Where a search stops: at a mark that it found, or at the stretch's end; and the signature there.
+pub struct Sought {
+    pub at: usize,
+    pub signature: u32,
+    pub found: bool,
+}
+
+// The first mark of a stretch from an offset on, whose signature is at hand.
+fn seek(
+    settings: Settings,
+    stretch: &[u8],
+    first: usize,
+    signature: u32,
+    leaving: &[u32; 256],
+    pushed: &[u32; 256],
+) -> Sought
+    requires { ⌜ inRange settings ≡ true ⌝ }
+    requires { ⌜ (48 ≤ first) × (first ≤ length (now stretch)) × (signature ≡ signatureOf (window (now stretch) (first - 48))) ⌝ }
+    requires { ⌜ (now leaving ≡ leavingTable) × (now pushed ≡ pushedTable) ⌝ }
+    ensures { λ r. ⌜ Seek settings (now (stretch .entry)) first r ⌝ }
+{
+    let mask: u32 = (1 << settings.bits) - 1;
+    let target = settings.target;
+    let mut at = first;
+    let mut here = signature;
+    while here & mask != target {
+        if at == stretch.len() {
+            return Sought {
+                at,
+                signature: here,
+                found: false,
+            };
+        }
+        here = signature::roll(here, stretch[at - 48], stretch[at], leaving, pushed);
+        at += 1;
+    }
+    Sought {
+        at,
+        signature: here,
+        found: true,
+    }
+}
+
+// The cut that follows a cut of a stretch if it stays in it, whatever follows; else an offset past the end.
+fn next_hop(
+    settings: Settings,
+    stretch: &[u8],
+    cut: usize,
+    leaving: &[u32; 256],
+    pushed: &[u32; 256],
+) -> usize
+    requires { ⌜ inRange settings ≡ true ⌝ }
+    requires { ⌜ (cut ≤ length (now stretch)) × (length (now stretch) ≤ 2 ^ 40) ⌝ }
+    requires { ⌜ (now leaving ≡ leavingTable) × (now pushed ≡ pushedTable) ⌝ }
+    ensures { λ r. ⌜ Hops settings (now (stretch .entry)) cut r ⌝ }
+{
+    let last = stretch.len();
+    if cut == last {
+        return last + 1;
+    }
+    let next = cutting::search::next_cut(settings, stretch, cut, leaving, pushed);
+    if next < last {
+        return next;
+    }
+    let step = (last - cut) as u64;
+    if step == settings.maximum {
+        return last;
+    }
+    if step < settings.minimum {
+        return last + 1;
+    }
+    let ended = seek(settings, stretch, last, signature::of_window(stretch, last - 48, pushed), leaving, pushed);
+    if ended.found {
+        return last;
+    }
+    last + 1
+}
