@@ -2,22 +2,26 @@
 use Prim.Native.Nat.{ℕ, zero, suc, _+_, _-_, _*_, _%_, _^_, _≤_, _<_, min}
 use mathlib.Core.Path.{_≡_, refl, sym, ap, _∙_, subst}
 use mathlib.Core.Bool.{Bool, true, false}
-use mathlib.Core.List.{List}
+use mathlib.Core.List.{List, [], _∷_}
+use native.Mathlib.Nat.{add-zero}
 use native.Mathlib.Omega.{arith}
 use lib.Bits.{bitAnd, and-mask}
-use lib.ListN.{length}
+use lib.ListN.{length, set}
 use borrow.Author.Tests.{eq-eqb, ne-eqb}
 use Rattle.laws.proofs.Cases.{by-lt}
 use Rattle.terms.specs.declared.Settings.{Settings}
-use Rattle.rule.specs.Rule.{next, hop, Unmarked, NextCut, first-mark, forced, log-ends}
-use Rattle.rule.proofs.Next.{next-is, next-only}
-use Rattle.rule.proofs.Hops.{next-hop, hop-long, hop-here, hop-on}
+use Rattle.rule.specs.Rule.{hop, hops, cutsUpTo, Unmarked}
+use Rattle.rule.proofs.First.{first-moves}
+use Rattle.rule.proofs.Hops.{UpTo, past, leap, up-to, listed, next-hop, hop-long, hop-rises, hop-here, hop-on}
 use Rattle.signature.specs.Signatures.{signatureOf, window}
 use Rattle.cutting.specs.Marks.{matches, mark, nextCut}
 use Rattle.cutting.proofs.Marked.{mark-within}
 use Rattle.cutting.proofs.Searching.{Searching, mask-is}
 use Rattle.board.specs.declared.recording.Sought.{Sought}
-use Rattle.board.specs.Stretches.{Seek, Hops}
+use Rattle.board.specs.declared.walk.Made.{Made}
+use Rattle.board.specs.Walk.{Puts}
+use Rattle.board.proofs.Putting.{Underway, one-more, rest-is, ended}
+use Rattle.board.specs.Stretches.{markFrom, Seek, Hops}
 
 -- a search from offset first on, for the mask of the settings' low bits
 module _ (s : Settings) (stretch : List ℕ) {first : ℕ} (low : 48 ≤ first) (few : s .bits ≤ 31) where
@@ -108,3 +112,72 @@ module _ (s : Settings) (stretch : List ℕ) (cut : ℕ) (positive : 1 ≤ s .mi
         unmarked-end {r} k t =
             let at : r .at ≡ length stretch = omega (arith, k .begun, k .inside) in
             past-by (hop-on (mark s stretch) (s .minimum) (s .maximum) cut (length stretch) ahead near (ap (mark s stretch) (sym at) ∙ k .told ∙ t))
+
+-- the marks of a stretch counted from its place in the log: the hops there are those of the stretch, moved
+module _ (s : Settings) (stretch : List ℕ) (base : ℕ) (positive : 1 ≤ s .minimum) (order : s .minimum ≤ s .maximum) where
+  pub mark-moved : (q : ℕ) → markFrom s stretch base (base + q) ≡ mark s stretch q
+  unfolding markFrom
+  mark-moved q = let same : base + q - base ≡ q = omega arith in ap (mark s stretch) same
+
+  hop-moved : (c : ℕ) → base ≤ c
+      → hop (mark s stretch) (s .minimum) (s .maximum) (c - base) + base ≡ hop (markFrom s stretch base) (s .minimum) (s .maximum) c
+  unfolding hop markFrom
+  hop-moved c h =
+      let lo : ℕ = s .minimum in
+      let hi : ℕ = s .maximum in
+      first-moves (mark s stretch) (λ p. mark s stretch (p - base)) 0 base (c - base + hi) (c + hi) (omega arith) (suc hi - lo) (c - base + lo) (c + lo) (omega arith)
+      (λ i k. ap (mark s stretch) (omega arith))
+      ∙ add-zero _
+
+  rises : (c : ℕ) → c < hop (markFrom s stretch base) (s .minimum) (s .maximum) c
+  rises = hop-rises (markFrom s stretch base) (s .minimum) (s .maximum) positive order
+
+  module _ (cut r : ℕ) (h : base ≤ cut) (found : Hops s stretch (cut - base) r) where
+    pub cuts-on : r ≤ length stretch
+        → cutsUpTo (markFrom s stretch base) (s .minimum) (s .maximum) (base + length stretch) cut
+        ≡ (base + r) ∷ cutsUpTo (markFrom s stretch base) (s .minimum) (s .maximum) (base + length stretch) (base + r)
+    unfolding cutsUpTo
+    cuts-on inside =
+        let here : hop (markFrom s stretch base) (s .minimum) (s .maximum) cut ≡ base + r = omega (arith, hop-moved cut h, found .stays inside) in
+        let e : ℕ = base + length stretch in
+        listed (hop (markFrom s stretch base) (s .minimum) (s .maximum)) e rises
+        (leap (rw here (omega arith)) (up-to (hop (markFrom s stretch base) (s .minimum) (s .maximum)) e rises _))
+        ∙ ap (λ x. x ∷ hops (hop (markFrom s stretch base) (s .minimum) (s .maximum)) e (e - x) x) here
+
+    pub cuts-none : length stretch < r → cutsUpTo (markFrom s stretch base) (s .minimum) (s .maximum) (base + length stretch) cut ≡ []
+    unfolding cutsUpTo
+    cuts-none past-it =
+        listed (hop (markFrom s stretch base) (s .minimum) (s .maximum)) (base + length stretch) rises (past (omega (arith, hop-moved cut h, found .leaves past-it)))
+
+    pub rises-past : r ≤ length stretch → cut < base + r
+    rises-past inside = omega (arith, hop-moved cut h, found .stays inside, rises cut)
+
+pub hop-later : (s : Settings) (stretch : List ℕ) (cut r : ℕ) → 1 ≤ s .minimum → s .minimum ≤ s .maximum → cut ≤ length stretch → Hops s stretch cut r → cut < r
+hop-later s stretch cut r positive order inside f =
+    by-lt (length stretch) r
+    (λ h. omega arith)
+    (λ h. omega (arith, f .stays h, hop-long (mark s stretch) (s .minimum) (s .maximum) cut order))
+
+-- the cuts up to `cut` are made, and the next hop is at hand
+pub record Cutting (s : Settings) (stretch : List ℕ) (base : ℕ) (before : Made) (list₀ list : List ℕ) (count cut next : ℕ) : Type 0 where
+  pub from : base ≤ cut
+  pub ahead : Hops s stretch (cut - base) next
+  pub way : Underway (cutsUpTo (markFrom s stretch base) (s .minimum) (s .maximum) (base + length stretch) (before .cut))
+      (cutsUpTo (markFrom s stretch base) (s .minimum) (s .maximum) (base + length stretch) cut) before list₀ count cut list
+
+module _ (s : Settings) (stretch : List ℕ) (base : ℕ) (positive : 1 ≤ s .minimum) (order : s .minimum ≤ s .maximum) {before : Made} {list₀ list : List ℕ} {count cut next : ℕ}
+    (w : Cutting s stretch base before list₀ list count cut next) where
+  pub cut-on : next ≤ length stretch → {list′ : List ℕ} → list′ ≡ set list count (base + next) → (r : ℕ) → Hops s stretch next r
+      → Cutting s stretch base before list₀ list′ (count + 1) (base + next) r
+  cut-on inside e r f =
+      let same : base + next - base ≡ next = omega arith in
+      record {
+        from = omega arith;
+        ahead = rw same f;
+        way = one-more (base + next) (rest-is _ (cuts-on s stretch base positive order cut next (w .from) (w .ahead) inside) (w .way))
+            (rises-past s stretch base positive order cut next (w .from) (w .ahead) inside) e;
+      }
+
+  pub cuts-done : length stretch < next
+      → Puts (cutsUpTo (markFrom s stretch base) (s .minimum) (s .maximum) (base + length stretch) (before .cut)) before (record { count = count; cut = cut }) list₀ list
+  cuts-done h = ended (rest-is _ (cuts-none s stretch base positive order cut next (w .from) (w .ahead) h) (w .way))

@@ -89,3 +89,30 @@ fn next_hop(
     }
     last + 1
 }
+
+// The one-pass cuts of a stretch that follow a cut: what the record lists of them.
+fn record_cuts(
+    settings: Settings,
+    stretch: &[u8],
+    base: u64,
+    made: Made,
+    list: &mut [u64],
+    leaving: &[u32; 256],
+    pushed: &[u32; 256],
+) -> Made
+    requires { ⌜ inRange settings ≡ true ⌝ }
+    requires { ⌜ (made .count ≤ made .cut) × (base ≤ made .cut) × (made .cut ≤ base + length (now stretch)) × (base + length (now stretch) ≤ 2 ^ 40) ⌝ }
+    requires { ⌜ (now leaving ≡ leavingTable) × (now pushed ≡ pushedTable) ⌝ }
+    ensures { λ r. ⌜ Puts (cutsUpTo (markFrom settings (now (stretch .entry)) base) (settings .minimum) (settings .maximum) (base + length (now (stretch .entry))) (made .cut)) made r (now (list .entry)) (now (list .exit)) ⌝ }
+{
+    let mut count = made.count;
+    let mut cut = made.cut;
+    let mut next = next_hop(settings, stretch, (cut - base) as usize, leaving, pushed);
+    while next <= stretch.len() {
+        cut = base + next as u64;
+        super::walk::put(list, count, cut);
+        count += 1;
+        next = next_hop(settings, stretch, next, leaving, pushed);
+    }
+    Made { count, cut }
+}
