@@ -12,6 +12,7 @@ pub mod Orders
 pub mod BayWalks
 pub mod Merges
 pub mod Stretching
+pub mod Slow
 pub mod Merged
 pub mod Putting
 pub mod Rises

@@ -6,14 +6,15 @@ use mathlib.Core.List.{List, [], _∷_}
 use native.Mathlib.Nat.{add-zero}
 use native.Mathlib.Omega.{arith}
 use lib.Bits.{bitAnd, and-mask}
-use lib.ListN.{length, set}
+use lib.ListN.{length, getD, set}
 use borrow.Author.Tests.{eq-eqb, ne-eqb}
 use Rattle.laws.proofs.Cases.{by-lt}
 use Rattle.terms.specs.declared.Settings.{Settings}
 use Rattle.rule.specs.Rule.{hop, hops, cutsUpTo, Unmarked}
 use Rattle.rule.proofs.First.{first-moves}
 use Rattle.rule.proofs.Hops.{UpTo, past, leap, up-to, listed, next-hop, hop-long, hop-rises, hop-here, hop-on}
-use Rattle.signature.specs.Signatures.{signatureOf, window}
+use Rattle.signature.specs.Signatures.{degree, lowPart, rolled, signatureOf, window}
+use Rattle.signature.proofs.Windows.{Bytes, roll-slides}
 use Rattle.cutting.specs.Marks.{matches, mark, nextCut}
 use Rattle.cutting.proofs.Marked.{mark-within}
 use Rattle.cutting.proofs.Searching.{Searching, mask-is}
@@ -181,3 +182,13 @@ module _ (s : Settings) (stretch : List ℕ) (base : ℕ) (positive : 1 ≤ s .m
   pub cuts-done : length stretch < next
       → Puts (cutsUpTo (markFrom s stretch base) (s .minimum) (s .maximum) (base + length stretch) (before .cut)) before (record { count = count; cut = cut }) list₀ list
   cuts-done h = ended (rest-is _ (cuts-none s stretch base positive order cut next (w .from) (w .ahead) h) (w .way))
+
+-- the signature one byte on
+pub rolled-on : (stretch : List ℕ) → Bytes stretch → (at : ℕ) → 48 ≤ at → at < length stretch → (here r : ℕ) → here ≡ signatureOf (window stretch (at - 48))
+    → r ≡ rolled degree lowPart 48 here (getD stretch (at - 48) 0) (getD stretch at 0) → r ≡ signatureOf (window stretch (at + 1 - 48))
+rolled-on stretch bytes at low inside here r is-here e =
+    let spot : at ≡ at - 48 + 48 = omega arith in
+    let onward : at - 48 + 1 ≡ at + 1 - 48 = omega arith in
+    roll-slides stretch bytes (at - 48) (omega arith) here r is-here
+    (e ∙ ap (λ i. rolled degree lowPart 48 here (getD stretch (at - 48) 0) (getD stretch i 0)) spot)
+    ∙ ap (λ q. signatureOf (window stretch q)) onward

@@ -1,6 +1,7 @@
 // Recording a segment: its stretch of the log is rolled through from its lead-in on. Inside, offsets count from the stretch's first byte.
 ghost use mathlib.Core.Path.{_≡_};
-ghost use mathlib.Core.Bool.{Bool, true};
+ghost use mathlib.Core.Bool.{Bool, true, _&&_};
+ghost use lib.Dec.{leb};
 ghost use Prim.Native.Nat.{_+_, _-_, _≤_, _<_, _^_};
 ghost use lib.ListN.{length};
 ghost use Rattle.signature.specs.Signatures.{signatureOf, window, leavingTable, pushedTable};
@@ -8,7 +9,7 @@ ghost use Rattle.terms.specs.Settings.{inRange};
 ghost use Rattle.rule.specs.Rule.{cutsUpTo};
 ghost use Rattle.cutting.specs.Marks.{mark};
 ghost use Rattle.board.specs.Walk.{Puts};
-ghost use Rattle.board.specs.Stretches.{markFrom, Seek, Hops};
+ghost use Rattle.board.specs.Stretches.{markFrom, afterIn, Seek, Hops, Records};
 use super::walk::Made;
 use terms::Settings;
 
@@ -83,7 +84,14 @@ fn next_hop(
     if step < settings.minimum {
         return last + 1;
     }
-    let ended = seek(settings, stretch, last, signature::of_window(stretch, last - 48, pushed), leaving, pushed);
+    let ended = seek(
+        settings,
+        stretch,
+        last,
+        signature::of_window(stretch, last - 48, pushed),
+        leaving,
+        pushed,
+    );
     if ended.found {
         return last;
     }
@@ -115,4 +123,88 @@ fn record_cuts(
         next = next_hop(settings, stretch, next, leaving, pushed);
     }
     Made { count, cut }
+}
+
+// How many offsets a record lists, and its marker.
+pub struct Recorded {
+    pub count: u64,
+    pub marker: u64,
+}
+
+// Whether two neighbour marks so far apart make the later one the marker.
+fn is_marker(minimum: u64, maximum: u64, step: u64) -> bool
+    requires { ⌜ minimum ≤ maximum ⌝ }
+    ensures { λ r. ⌜ r ≡ leb minimum step && leb step (maximum - minimum) ⌝ }
+{
+    if step < minimum {
+        return false;
+    }
+    if step > maximum - minimum {
+        return false;
+    }
+    true
+}
+
+// The mark that follows a mark.
+fn next_mark(
+    settings: Settings,
+    stretch: &[u8],
+    spot: Sought,
+    leaving: &[u32; 256],
+    pushed: &[u32; 256],
+) -> Sought
+    requires { ⌜ inRange settings ≡ true ⌝ }
+    requires { ⌜ (48 ≤ spot .at) × (spot .at < length (now stretch)) × (spot .signature ≡ signatureOf (window (now stretch) (spot .at - 48))) ⌝ }
+    requires { ⌜ (now leaving ≡ leavingTable) × (now pushed ≡ pushedTable) ⌝ }
+    ensures { λ r. ⌜ Seek settings (now (stretch .entry)) (spot .at + 1) r ⌝ }
+{
+    let at = spot.at;
+    let here = signature::roll(
+        spot.signature,
+        stretch[at - 48],
+        stretch[at],
+        leaving,
+        pushed,
+    );
+    seek(settings, stretch, at + 1, here, leaving, pushed)
+}
+
+// In slow mode from a mark on: every mark that follows it until the marker, and then the cuts.
+fn record_after(
+    settings: Settings,
+    stretch: &[u8],
+    base: u64,
+    first: Sought,
+    list: &mut [u64],
+    leaving: &[u32; 256],
+    pushed: &[u32; 256],
+) -> Recorded
+    requires { ⌜ inRange settings ≡ true ⌝ }
+    requires { ⌜ (48 ≤ first .at) × (first .at ≤ length (now stretch)) × (first .signature ≡ signatureOf (window (now stretch) (first .at - 48))) × (base + length (now stretch) ≤ 2 ^ 40) ⌝ }
+    requires { ⌜ (now leaving ≡ leavingTable) × (now pushed ≡ pushedTable) ⌝ }
+    ensures { λ r. ⌜ Records (afterIn settings (now (stretch .entry)) base (first .at)) 1 r (now (list .entry)) (now (list .exit)) ⌝ }
+{
+    let minimum = settings.minimum;
+    let maximum = settings.maximum;
+    let mut spot = first;
+    let mut count: u64 = 1;
+    while spot.at < stretch.len() {
+        let next = next_mark(settings, stretch, spot, leaving, pushed);
+        if !next.found {
+            return Recorded { count, marker: 0 };
+        }
+        let offset = base + next.at as u64;
+        super::walk::put(list, count, offset);
+        count += 1;
+        if is_marker(minimum, maximum, (next.at - spot.at) as u64) {
+            let made = Made { count, cut: offset };
+            let all = record_cuts(settings, stretch, base, made, list, leaving, pushed);
+            return Recorded {
+                count: all.count,
+                marker: offset,
+            };
+        }
+        spot = next;
+    }
+    Recorded { count, marker: 0 }
 }
