@@ -17,3 +17,5 @@ pub mod Merged
 pub mod Putting
 pub mod Rises
 pub mod Walks
+pub mod Alike
+pub mod Parts

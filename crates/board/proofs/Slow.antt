@@ -7,7 +7,7 @@ use native.Mathlib.Numerals.{add-one}
 use native.Mathlib.Omega.{arith}
 use lib.Dec.{leb}
 use lib.ListN.{length, set}
-use lib.Seq.{length-sets}
+use lib.Seq.{sets, length-sets}
 use Rattle.laws.proofs.Cases.{by-lt}
 use Rattle.rule.specs.Rule.{Unmarked, cutsUpTo, lastOr}
 use Rattle.signature.specs.Signatures.{signatureOf, window}
@@ -26,7 +26,7 @@ use Rattle.board.proofs.Putting.{Underway, begin, one-more, rest-is, en
 
 -- the marks above an offset are one list
 module _ (mark : ℕ → Bool) (e : ℕ) where
-  only : {a : ℕ} {l k : List ℕ} → Marks mark e a l → Marks mark e a k → l ≡ k
+  pub only : {a : ℕ} {l k : List ℕ} → Marks mark e a l → Marks mark e a k → l ≡ k
   only (none-left u) (none-left v) = refl
   only (none-left u) (then-mark b above inside m v r) = absurd (marked-not m (u b above (omega arith)))
   only (then-mark b above inside m v r) (none-left u) = absurd (marked-not m (u b above (omega arith)))
@@ -149,3 +149,29 @@ module _ {s : Settings} {stretch : List ℕ} {base : ℕ} {first : Sought} {list
 
 pub records-long : {r : Record} {before : ℕ} {after : Recorded} {list₀ list : List ℕ} → Records r before after list₀ list → length list ≡ length list₀
 records-long {r} {before} {list₀ = list₀} w = ap length (w .kept) ∙ length-sets list₀ before (r .offsets)
+
+-- the first mark of a stretch past its lead-in
+module _ (s : Settings) (stretch : List ℕ) (base : ℕ) (long : 48 ≤ length stretch) (first : Sought) (k : Seek s stretch 48 first) (list : List ℕ) where
+  first-clear : Unmarked (markFrom s stretch base) (suc (base + 47)) (base + first .at)
+  unfolding markFrom
+  first-clear q lo hi = k .clear (q - base) (omega arith) (omega arith)
+
+  first-told : markFrom s stretch base (base + first .at) ≡ first .found
+  unfolding markFrom
+  first-told = let same : base + first .at - base ≡ first .at = omega arith in ap (mark s stretch) same ∙ k .told
+
+  pub first-none : first .found ≡ false → Records (slowIn s stretch base) 0 (record { count = 0; marker = 0 }) list list
+  unfolding slowIn slowRecord
+  first-none t =
+      let ends : first .at ≡ length stretch = k .ended t in
+      rw (marks-none (markFrom s stretch base) (base + length stretch) (base + 47) (omega arith)
+      (λ q lo hi. by-lt q (base + first .at) (first-clear q lo) (λ h. ap (markFrom s stretch base) (omega arith) ∙ first-told ∙ t)))
+      (record { counted = refl; marked = refl; kept = refl })
+
+  pub first-found : first .found ≡ true → {list′ list″ : List ℕ} → list′ ≡ set list 0 (base + first .at) → {r : Recorded}
+      → Records (afterIn s stretch base (first .at)) 1 r list′ list″ → Records (slowIn s stretch base) 0 r list list″
+  unfolding slowIn slowRecord afterIn prepend
+  first-found t e {r} w =
+      rw (marks-next (markFrom s stretch base) (base + length stretch) (base + 47) (base + first .at) (omega (arith, k .begun)) (omega (arith, k .inside))
+      (first-told ∙ t) first-clear)
+      (record { counted = w .counted ∙ omega arith; marked = w .marked; kept = w .kept ∙ ap (λ (l : List ℕ). sets l 1 (afterIn s stretch base (first .at) .offsets)) e })

@@ -9,7 +9,9 @@ ghost use Rattle.terms.specs.Settings.{inRange};
 ghost use Rattle.rule.specs.Rule.{cutsUpTo};
 ghost use Rattle.cutting.specs.Marks.{mark};
 ghost use Rattle.board.specs.Walk.{Puts};
-ghost use Rattle.board.specs.Stretches.{markFrom, afterIn, Seek, Hops, Records};
+ghost use Rattle.board.specs.Stretches.{markFrom, afterIn, slowIn, Seek, Hops, Records};
+ghost use Rattle.board.specs.Segments.{There};
+ghost use Rattle.board.specs.Recording.{segmentOf};
 use super::walk::Made;
 use terms::Settings;
 
@@ -207,4 +209,58 @@ fn record_after(
         spot = next;
     }
     Recorded { count, marker: 0 }
+}
+
+// The record of a stretch past its lead-in: all marks in slow mode until the marker, and then the cuts.
+fn record_marks(
+    settings: Settings,
+    stretch: &[u8],
+    base: u64,
+    list: &mut [u64],
+    leaving: &[u32; 256],
+    pushed: &[u32; 256],
+) -> Recorded
+    requires { ⌜ inRange settings ≡ true ⌝ }
+    requires { ⌜ (48 ≤ length (now stretch)) × (base + length (now stretch) ≤ 2 ^ 40) ⌝ }
+    requires { ⌜ (now leaving ≡ leavingTable) × (now pushed ≡ pushedTable) ⌝ }
+    ensures { λ r. ⌜ Records (slowIn settings (now (stretch .entry)) base) 0 r (now (list .entry)) (now (list .exit)) ⌝ }
+{
+    let here = signature::of_window(stretch, 0, pushed);
+    let first = seek(settings, stretch, 48, here, leaving, pushed);
+    if !first.found {
+        return Recorded {
+            count: 0,
+            marker: 0,
+        };
+    }
+    super::walk::put(list, 0, base + first.at as u64);
+    record_after(settings, stretch, base, first, list, leaving, pushed)
+}
+
+// The record of segment i: segment 0 runs accelerated from 0; any other is a stretch that starts 47 bytes before it.
+fn record_segment(settings: Settings, log: &[u8], size: u64, i: u64, list: &mut [u64]) -> Recorded
+    requires { ⌜ (inRange settings ≡ true) × There size (length (now log)) i ⌝ }
+    ensures { λ r. ⌜ Records (segmentOf (mark settings (now (log .entry))) settings (length (now (log .entry))) size i) 0 r (now (list .entry)) (now (list .exit)) ⌝ }
+{
+    let leaving = signature::tables::leaving();
+    let pushed = signature::tables::pushed();
+    let start = i * size;
+    let last = super::shapes::end_of(start, size, log.len() as u64) as usize;
+    if i == 0 {
+        let none = Made { count: 0, cut: 0 };
+        let made = record_cuts(settings, &log[0..last], 0, none, list, &leaving, &pushed);
+        return Recorded {
+            count: made.count,
+            marker: 0,
+        };
+    }
+    let base = start - 47;
+    record_marks(
+        settings,
+        &log[base as usize..last],
+        base,
+        list,
+        &leaving,
+        &pushed,
+    )
 }
