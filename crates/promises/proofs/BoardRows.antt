@@ -83,49 +83,52 @@ segment-rows mark s n size i width numbers =
     (unless-not answerNumber (recordFits (segmentOf mark s n size i) width) refl refl)
 
 -- a verdict that is not the guard's
-abbrev Plain : Verdict → Type 0
-Plain verdict = verdictOr 0 verdict ≡ 17 → ⊥
+record Plain (verdict : Verdict) : Type 0 where
+  other : verdictOr 0 verdict ≡ 17 → ⊥
 
 plain-row : (passes : Bool) (why : Refusal) {verdict : Verdict} → (numberOf why ≡ 17 → ⊥) → Plain verdict → Plain (unless passes (Denied why) verdict)
-plain-row true why other later = later
-plain-row false why other later = other
+plain-row true why differs later = later
+plain-row false why differs later = record { other = differs }
 
 plain-then : (verdict : Verdict) {next : Verdict} → Plain verdict → Plain next → Plain (ifGranted verdict Denied next)
-plain-then Granted one-self later = later
-plain-then (Denied why) one-self later = one-self
+plain-then Granted itself later = later
+plain-then (Denied why) itself later = itself
+
+plain-granted : Plain Granted
+plain-granted = record { other = omega arith }
 
 plain-bays : (s : Settings) (n size width : ℕ) (board : List ℕ) (k i : ℕ) → Plain (baysJudged s size width n board k i)
 unfolding baysJudged bayJudged
-plain-bays s n size width board zero i = omega arith
+plain-bays s n size width board zero i = plain-granted
 plain-bays s n size width board (suc k) i =
     let bay = bayOf width board i in
     plain-then (bayJudged s size n i bay)
-    (plain-row (isDone bay) BayNotDone (omega arith) (plain-row (isSound (s .minimum) (s .maximum) size n i bay) BayMalformed (omega arith) (omega arith)))
+    (plain-row (isDone bay) BayNotDone (omega arith) (plain-row (isSound (s .minimum) (s .maximum) size n i bay) BayMalformed (omega arith) plain-granted))
     (plain-bays s n size width board k (suc i))
 
+plain-judged : (s : Settings) (n : ℕ) (fits : Bool) → Plain (judged s n fits)
+unfolding judged
+plain-judged s n fits =
+    plain-row (inRange s) SettingsOutOfRange (omega arith)
+    (plain-row (leb n longest) LogTooLong (omega arith) (plain-row fits NoSuchSegment (omega arith) plain-granted))
+
 plain-merge : (s : Settings) (n size width : ℕ) (board : List ℕ) (room : ℕ) → Plain (mergeJudged s n size width board room)
-unfolding mergeJudged judged
+unfolding mergeJudged
 plain-merge s n size width board room =
-    plain-then (judged s n (boardFits size width n (length board)))
-    (plain-row (inRange s) SettingsOutOfRange (omega arith)
-    (plain-row (leb n longest) LogTooLong (omega arith) (plain-row (boardFits size width n (length board)) NoSuchSegment (omega arith) (omega arith))))
+    plain-then (judged s n (boardFits size width n (length board))) (plain-judged s n (boardFits size width n (length board)))
     (plain-row (leb (roomFor (s .minimum) n) room) RoomTooShort (omega arith) (plain-bays s n size width board (segments size n) 0))
 
-granted-leaves : (verdict : Verdict) {answer : Answer} {before after cuts : List ℕ} → Plain verdict → Leaves (answerNumber answer) before after cuts
+granted-leaves : (verdict : Verdict) (answer : Answer) {before after cuts : List ℕ} → Plain verdict → Leaves (answerNumber answer) before after cuts
     → Leaves (answerNumber (ifGranted verdict Refused answer)) before (ifGranted verdict (λ why. before) after) cuts
 unfolding answerNumber
-granted-leaves Granted plain later = later
-granted-leaves (Denied why) plain later = record { untouched = λ refusal guard. refl; guarded = λ guard. absurd (plain guard) }
+granted-leaves Granted answer plain later = later
+granted-leaves (Denied why) answer plain later =
+    record { untouched = λ refusal guard. refl; guarded = λ guard. absurd (plain .other guard) }
 
 pub merge-leaves : (s : Settings) (n size width : ℕ) (board list : List ℕ)
     → Leaves (answerNumber (mergeAnswer s n size width board (length list))) list (mergeList s n size width board list) (boardWalk s n size width board)
 unfolding mergeAnswer mergeList writtenAnswer answerNumber
 merge-leaves s n size width board list =
     let walk = boardWalk s n size width board in
-    granted-leaves (mergeJudged s n size width board (length list)) (plain-merge s n size width board (length list))
+    granted-leaves (mergeJudged s n size width board (length list)) (writtenAnswer walk (length list)) (plain-merge s n size width board (length list))
     (guard-leaves answerNumber (leb (length walk) (length list)) walk list refl refl)
-
--- a segment call: 6 leaves its bay not done and filled as far as it goes, every other refusal the board as it was
-pub record SegmentLeaves (number width i : ℕ) (record-of : Record) (board after : List ℕ) : Type 0 where
-  pub untouched : (number ≡ 0 → ⊥) → (number ≡ 6 → ⊥) → after ≡ board
-  pub too-long : number ≡ 6 → after ≡ withBay width i (0 ∷ 0 ∷ take (length (bayOf width board i) - 2) (record-of .offsets)) board

@@ -3,5 +3,6 @@
 pub mod amends;
 pub mod answers;
 pub mod pass;
+pub mod segments;
 pub mod sheets;
 pub mod whole;
