@@ -19,3 +19,4 @@ pub mod Rises
 pub mod Walks
 pub mod Alike
 pub mod Parts
+pub mod Fills

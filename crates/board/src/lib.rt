@@ -4,6 +4,7 @@ use terms::Refusal;
 pub mod judging;
 pub mod merging;
 pub mod recording;
+pub mod segment;
 pub mod shapes;
 pub mod walk;
 

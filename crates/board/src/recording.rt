@@ -238,7 +238,13 @@ fn record_marks(
 }
 
 // The record of segment i: segment 0 runs accelerated from 0; any other is a stretch that starts 47 bytes before it.
-fn record_segment(settings: Settings, log: &[u8], size: u64, i: u64, list: &mut [u64]) -> Recorded
+pub fn record_segment(
+    settings: Settings,
+    log: &[u8],
+    size: u64,
+    i: u64,
+    list: &mut [u64],
+) -> Recorded
     requires { ⌜ (inRange settings ≡ true) × There size (length (now log)) i ⌝ }
     ensures { λ r. ⌜ Records (segmentOf (mark settings (now (log .entry))) settings (length (now (log .entry))) size i) 0 r (now (list .entry)) (now (list .exit)) ⌝ }
 {

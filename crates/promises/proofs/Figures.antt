@@ -5,13 +5,23 @@ use mathlib.Core.Bool.{Bool, true, false, _&&_}
 use mathlib.Core.List.{List, [], _∷_}
 use native.Mathlib.Omega.{arith}
 use lib.Dec.{eqb}
+use lib.ListN.{length}
 use borrow.Author.Tests.{eqb-true}
 use Rattle.laws.proofs.Cases.{both-true}
 use Rattle.rule.specs.Rule.{firstMark, next, chain, cutsFrom}
 use Rattle.signature.specs.Polynomials.{rem, divide, foldDigits}
-use Rattle.signature.specs.Signatures.{degree, lowPart, number, signature, signatureOf}
+use Rattle.signature.specs.Signatures.{degree, lowPart, number as numberOfBytes, signature, signatureOf}
 use Rattle.cutting.specs.Marks.{matches, mark, cutList}
-use Rattle.promises.specs.Figures.{Figure, power, cuts, Holds, starred, logA, logC}
+use Rattle.laws.specs.Over.{over}
+use Rattle.terms.specs.Settings.{inRange}
+use Rattle.terms.specs.Answers.{answerNumber}
+use Rattle.rule.specs.Rule.{hop, hops, cutsUpTo}
+use Rattle.board.specs.Segments.{sizeInRange, segments, segmentStart, segmentEnd, shapeFits, boardFits, segmentFits}
+use Rattle.board.specs.Records.{entries, marksAmong, marksIn, isMarker, prepend, recordAfter, slowRecord, segmentRecord}
+use Rattle.board.specs.Bays.{bayOf}
+use Rattle.board.specs.Merging.{judged}
+use Rattle.board.specs.Recording.{recordFits, recordAnswer, recorded, withBay, segmentAnswer, segmentBoard}
+use Rattle.promises.specs.Figures.{Figure, power, cuts, segment, Holds, starred, logA, logC}
 
 sameLists : List ℕ → List ℕ → Bool
 sameLists [] [] = true
@@ -32,11 +42,15 @@ same-lists (x ∷ xs) (y ∷ ys) e = let both = both-true e in ap₂ _∷_ (eqb-
 test : Figure → Bool
 test (power k value) = eqb (rem degree lowPart (2 ^ k)) value
 test (cuts settings log list) = sameLists (cutList settings log) list
+test (segment settings log size width i board number after) =
+    eqb (answerNumber (segmentAnswer (mark settings log) settings (length log) size i width (length board))) number
+    && sameLists (segmentBoard (mark settings log) settings (length log) size i width board) after
 
 told : (f : Figure) → test f ≡ true → Holds f
 unfolding test Holds
 told (power k value) e = eqb-true _ _ e
 told (cuts settings log list) e = same-lists _ _ e
+told (segment settings log size width i board number after) e = let both = both-true e in (eqb-true _ _ (both .0), same-lists _ _ (both .1))
 
 testAll : List Figure → Bool
 testAll [] = true
@@ -53,7 +67,7 @@ each [] e = none
 each (f ∷ fs) e = let both = both-true e in and-each (told f (both .0)) (each fs (both .1))
 
 passed : testAll starred ≡ true
-unfolding testAll test sameLists starred logA logC cutsFrom chain next firstMark mark matches signatureOf signature number rem divide foldDigits
+unfolding testAll test sameLists starred logA logC cutsFrom chain next firstMark mark matches signatureOf signature numberOfBytes rem divide foldDigits answerNumber segmentAnswer segmentBoard recordAnswer recordFits recorded withBay bayOf judged inRange sizeInRange segments segmentStart segmentEnd shapeFits boardFits segmentFits entries marksAmong marksIn isMarker prepend recordAfter slowRecord segmentRecord hop hops cutsUpTo over
 passed = refl
 
 pub figures : Each starred

@@ -44,7 +44,7 @@ row-leaves number true other later = later
 row-leaves number false other later = record { untouched = λ refusal guard. refl; guarded = λ guard. absurd (other guard) }
 
 -- the guard keeps what is written
-guard-leaves : {A : Type 0} (number : A → ℕ) (fits : Bool) {refused answer : A} (cuts list : List ℕ) → number refused ≡ 17 → number answer ≡ 0
+pub guard-leaves : {A : Type 0} (number : A → ℕ) (fits : Bool) {refused answer : A} (cuts list : List ℕ) → number refused ≡ 17 → number answer ≡ 0
     → Leaves (number (unless fits refused answer)) list (writtenList cuts list) cuts
 unfolding writtenList
 guard-leaves number true cuts list full fine =

@@ -34,11 +34,11 @@ guarded : {A : Type 0} (number : A → ℕ) {refused answer : A} {k later : ℕ}
 guarded number true holds e is-k others = others ∙ rw e
 guarded number false holds e is-k others = is-k ∙ rw e
 
-unless-not : {A : Type 0} (number : A → ℕ) {refused answer : A} {k later : ℕ} (passes : Bool)
+pub unless-not : {A : Type 0} (number : A → ℕ) {refused answer : A} {k later : ℕ} (passes : Bool)
     → number refused ≡ k → number answer ≡ later → number (unless passes refused answer) ≡ whether (not passes) k later
 unless-not number passes = guarded number passes (not passes) refl
 
-unless-at-most : {A : Type 0} (number : A → ℕ) {refused answer : A} {k later : ℕ} (a b : ℕ)
+pub unless-at-most : {A : Type 0} (number : A → ℕ) {refused answer : A} {k later : ℕ} (a b : ℕ)
     → number refused ≡ k → number answer ≡ later → number (unless (leb a b) refused answer) ≡ whether (ltb b a) k later
 unless-at-most number a b =
     guarded number (leb a b) (ltb b a)

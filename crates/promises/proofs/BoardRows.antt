@@ -1,0 +1,131 @@
+-- `rows` and `refused-leaves` for segments and merging.
+use Prim.Native.Nat.{ℕ, zero, suc, _-_}
+use mathlib.Core.Path.{_≡_, refl, sym, ap, _∙_}
+use mathlib.Core.Bool.{Bool, true, false, not}
+use mathlib.Core.List.{List, [], _∷_}
+use native.Mathlib.Omega.{arith}
+use lib.Dec.{leb, ltb}
+use lib.ListN.{length, take}
+use Rattle.laws.specs.Over.{over}
+use Rattle.terms.specs.declared.Settings.{Settings}
+use Rattle.terms.specs.declared.Answer.{Answer}
+use Rattle.terms.specs.declared.Answer.the-variants.{Wrote, Refused}
+use Rattle.terms.specs.declared.Refusal.{Refusal}
+use Rattle.terms.specs.declared.Refusal.the-variants.{SettingsOutOfRange, LogTooLong, NoSuchSegment, RoomTooShort, BayNotDone, BayMalformed}
+use Rattle.terms.specs.Refusals.{numberOf}
+use Rattle.terms.specs.Settings.{inRange}
+use Rattle.terms.specs.Answers.{answerNumber, unless, longest, roomFor}
+use Rattle.cutting.specs.WholeLog.{writtenAnswer, writtenList}
+use Rattle.board.specs.declared.Verdict.{Verdict}
+use Rattle.board.specs.declared.Verdict.the-variants.{Granted, Denied}
+use Rattle.board.specs.Segments.{segments, boardFits, segmentFits}
+use Rattle.board.specs.Records.{Record}
+use Rattle.board.specs.Bays.{bayOf, isDone, isSound}
+use Rattle.board.specs.Merging.{judged, ifGranted, bayJudged, baysJudged, mergeJudged, boardWalk, mergeAnswer, mergeList}
+use Rattle.board.specs.Recording.{segmentOf, recordFits, recordAnswer, recorded, withBay, segmentAnswer, segmentBoard}
+use Rattle.promises.specs.Rows.{Row, row, whether, firstRow, segmentRows, bayRows, mergeRows}
+use Rattle.promises.proofs.Rows.{unless-not, unless-at-most}
+use Rattle.promises.proofs.Leaves.{Leaves, guard-leaves}
+
+-- the number of a verdict, or what comes later where it is granted
+abbrev verdictOr : ℕ → Verdict → ℕ
+verdictOr later Granted = later
+verdictOr later (Denied why) = numberOf why
+
+answered : (verdict : Verdict) (answer : Answer) → answerNumber (ifGranted verdict Refused answer) ≡ verdictOr (answerNumber answer) verdict
+unfolding answerNumber
+answered Granted answer = refl
+answered (Denied why) answer = refl
+
+then-judged : (later : ℕ) (verdict next : Verdict) → verdictOr later (ifGranted verdict Denied next) ≡ verdictOr (verdictOr later next) verdict
+then-judged later Granted next = refl
+then-judged later (Denied why) next = refl
+
+judged-rows : (later : ℕ) (s : Settings) (n : ℕ) (fits : Bool)
+    → verdictOr later (judged s n fits) ≡ whether (not (inRange s)) 1 (whether (ltb longest n) 2 (whether (not fits) 7 later))
+unfolding judged
+judged-rows later s n fits =
+    unless-not (verdictOr later) (inRange s) refl (unless-at-most (verdictOr later) n longest refl (unless-not (verdictOr later) fits refl refl))
+
+bays-rows : (s : Settings) (n size width : ℕ) (board : List ℕ) (later : List Row) (k i : ℕ)
+    → verdictOr (firstRow later) (baysJudged s size width n board k i) ≡ firstRow (bayRows s n size width board later k i)
+unfolding baysJudged bayJudged bayRows firstRow
+bays-rows s n size width board later zero i = refl
+bays-rows s n size width board later (suc k) i =
+    let rest = bays-rows s n size width board later k (suc i) in
+    then-judged (firstRow later) (bayJudged s size n i (bayOf width board i)) (baysJudged s size width n board k (suc i))
+    ∙ unless-not (verdictOr (verdictOr (firstRow later) (baysJudged s size width n board k (suc i)))) (isDone (bayOf width board i)) refl
+    (unless-not (verdictOr (verdictOr (firstRow later) (baysJudged s size width n board k (suc i)))) (isSound (s .minimum) (s .maximum) size n i (bayOf width board i)) refl rest)
+
+pub merge-rows : (s : Settings) (n size width : ℕ) (board : List ℕ) (room : ℕ)
+    → answerNumber (mergeAnswer s n size width board room) ≡ firstRow (mergeRows s n size width board room)
+unfolding mergeAnswer mergeJudged writtenAnswer answerNumber mergeRows firstRow
+merge-rows s n size width board room =
+    let walk = boardWalk s n size width board in
+    let guard = row 17 (ltb room (length walk)) ∷ [] in
+    let bays = baysJudged s size width n board (segments size n) 0 in
+    let roomy = unless (leb (roomFor (s .minimum) n) room) (Denied RoomTooShort) bays in
+    let fits = boardFits size width n (length board) in
+    answered (mergeJudged s n size width board room) (writtenAnswer walk room)
+    ∙ ap (λ later. verdictOr later (mergeJudged s n size width board room)) (unless-at-most answerNumber (length walk) room refl refl)
+    ∙ then-judged (firstRow guard) (judged s n fits) roomy
+    ∙ judged-rows (verdictOr (firstRow guard) roomy) s n fits
+    ∙ ap (λ later. whether (not (inRange s)) 1 (whether (ltb longest n) 2 (whether (not fits) 7 later)))
+    (unless-at-most (verdictOr (firstRow guard)) (roomFor (s .minimum) n) room refl (bays-rows s n size width board guard (segments size n) 0))
+
+pub segment-rows : (mark : ℕ → Bool) (s : Settings) (n size i width numbers : ℕ)
+    → answerNumber (segmentAnswer mark s n size i width numbers) ≡ firstRow (segmentRows mark s n size i width numbers)
+unfolding segmentAnswer recordAnswer answerNumber segmentRows firstRow
+segment-rows mark s n size i width numbers =
+    answered (judged s n (segmentFits size width n i numbers)) (recordAnswer (segmentOf mark s n size i) width)
+    ∙ judged-rows (answerNumber (recordAnswer (segmentOf mark s n size i) width)) s n (segmentFits size width n i numbers)
+    ∙ ap (λ later. whether (not (inRange s)) 1 (whether (ltb longest n) 2 (whether (not (segmentFits size width n i numbers)) 7 later)))
+    (unless-not answerNumber (recordFits (segmentOf mark s n size i) width) refl refl)
+
+-- a verdict that is not the guard's
+abbrev Plain : Verdict → Type 0
+Plain verdict = verdictOr 0 verdict ≡ 17 → ⊥
+
+plain-row : (passes : Bool) (why : Refusal) {verdict : Verdict} → (numberOf why ≡ 17 → ⊥) → Plain verdict → Plain (unless passes (Denied why) verdict)
+plain-row true why other later = later
+plain-row false why other later = other
+
+plain-then : (verdict : Verdict) {next : Verdict} → Plain verdict → Plain next → Plain (ifGranted verdict Denied next)
+plain-then Granted one-self later = later
+plain-then (Denied why) one-self later = one-self
+
+plain-bays : (s : Settings) (n size width : ℕ) (board : List ℕ) (k i : ℕ) → Plain (baysJudged s size width n board k i)
+unfolding baysJudged bayJudged
+plain-bays s n size width board zero i = omega arith
+plain-bays s n size width board (suc k) i =
+    let bay = bayOf width board i in
+    plain-then (bayJudged s size n i bay)
+    (plain-row (isDone bay) BayNotDone (omega arith) (plain-row (isSound (s .minimum) (s .maximum) size n i bay) BayMalformed (omega arith) (omega arith)))
+    (plain-bays s n size width board k (suc i))
+
+plain-merge : (s : Settings) (n size width : ℕ) (board : List ℕ) (room : ℕ) → Plain (mergeJudged s n size width board room)
+unfolding mergeJudged judged
+plain-merge s n size width board room =
+    plain-then (judged s n (boardFits size width n (length board)))
+    (plain-row (inRange s) SettingsOutOfRange (omega arith)
+    (plain-row (leb n longest) LogTooLong (omega arith) (plain-row (boardFits size width n (length board)) NoSuchSegment (omega arith) (omega arith))))
+    (plain-row (leb (roomFor (s .minimum) n) room) RoomTooShort (omega arith) (plain-bays s n size width board (segments size n) 0))
+
+granted-leaves : (verdict : Verdict) {answer : Answer} {before after cuts : List ℕ} → Plain verdict → Leaves (answerNumber answer) before after cuts
+    → Leaves (answerNumber (ifGranted verdict Refused answer)) before (ifGranted verdict (λ why. before) after) cuts
+unfolding answerNumber
+granted-leaves Granted plain later = later
+granted-leaves (Denied why) plain later = record { untouched = λ refusal guard. refl; guarded = λ guard. absurd (plain guard) }
+
+pub merge-leaves : (s : Settings) (n size width : ℕ) (board list : List ℕ)
+    → Leaves (answerNumber (mergeAnswer s n size width board (length list))) list (mergeList s n size width board list) (boardWalk s n size width board)
+unfolding mergeAnswer mergeList writtenAnswer answerNumber
+merge-leaves s n size width board list =
+    let walk = boardWalk s n size width board in
+    granted-leaves (mergeJudged s n size width board (length list)) (plain-merge s n size width board (length list))
+    (guard-leaves answerNumber (leb (length walk) (length list)) walk list refl refl)
+
+-- a segment call: 6 leaves its bay not done and filled as far as it goes, every other refusal the board as it was
+pub record SegmentLeaves (number width i : ℕ) (record-of : Record) (board after : List ℕ) : Type 0 where
+  pub untouched : (number ≡ 0 → ⊥) → (number ≡ 6 → ⊥) → after ≡ board
+  pub too-long : number ≡ 6 → after ≡ withBay width i (0 ∷ 0 ∷ take (length (bayOf width board i) - 2) (record-of .offsets)) board
