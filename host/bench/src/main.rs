@@ -129,7 +129,7 @@ fn targets(contest: &[Contestant], cores: NonZeroUsize) {
     }
 }
 
-/// Nanoseconds a byte, from 1 MiB to 1 GiB; microseconds for an amendment and for sheets.
+/// Milliseconds of each way, from 1 MiB to 1 GiB.
 fn growth(settings: Settings, rounds: usize, cores: NonZeroUsize) {
     println!("ms at each length; a way whose cost grows with the log has four times the ms in the next column");
     let lengths: Vec<usize> = (0..6).map(|k| 1 << (20 + 2 * k)).collect();

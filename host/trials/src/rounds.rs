@@ -117,7 +117,8 @@ fn segment(noise: &mut Noise) -> u32 {
     let (settings, log, size, index) = any_segment(noise);
     let room = bay_room(noise);
     let entries = (log.len() as u64).div_ceil(size.max(64)) * room;
-    let entries = noise.pick(&[entries, entries, entries + 1, entries.saturating_sub(1), 0]);
+    let short = entries.saturating_sub(1);
+    let entries = noise.pick(&[entries, entries, entries, entries, entries, entries + 1, short, 0]);
     let board: Vec<u64> = (0..entries).map(|_| noise.number()).collect();
     let room = if noise.once_in(20) { noise.pick(&inputs::EXTREMES) } else { room };
     compare::segment(settings, &log, size, room, index, &board).0.number

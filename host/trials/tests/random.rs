@@ -16,45 +16,45 @@ fn fresh() {
 
 #[test]
 fn block() {
-    agree("block", 15_000);
+    agree("block", 120_000);
 }
 
 #[test]
 fn close() {
-    agree("close", 10_000);
+    agree("close", 100_000);
 }
 
 #[test]
 fn cut_log() {
-    agree("cut_log", 10_000);
+    agree("cut_log", 80_000);
 }
 
 #[test]
 fn segment() {
-    agree("segment", 10_000);
+    agree("segment", 60_000);
 }
 
 #[test]
 fn record() {
-    agree("record", 10_000);
+    agree("record", 60_000);
 }
 
 #[test]
 fn merge() {
-    agree("merge", 50_000);
+    agree("merge", 400_000);
 }
 
 #[test]
 fn amend() {
-    agree("amend", 10_000);
+    agree("amend", 80_000);
 }
 
 #[test]
 fn write_sheet() {
-    agree("write_sheet", 20_000);
+    agree("write_sheet", 150_000);
 }
 
 #[test]
 fn read_sheet() {
-    agree("read_sheet", 20_000);
+    agree("read_sheet", 150_000);
 }
