@@ -1,28 +1,26 @@
 -- `rows` and `refused-leaves` for segments and merging.
-use Prim.Native.Nat.{ℕ, zero, suc, _-_}
-use mathlib.Core.Path.{_≡_, refl, sym, ap, _∙_}
+use Prim.Native.Nat.{ℕ, zero, suc}
+use mathlib.Core.Path.{_≡_, refl, ap, _∙_}
 use mathlib.Core.Bool.{Bool, true, false, not}
 use mathlib.Core.List.{List, [], _∷_}
 use native.Mathlib.Omega.{arith}
 use lib.Dec.{leb, ltb}
-use lib.ListN.{length, take}
-use Rattle.laws.specs.Over.{over}
+use lib.ListN.{length}
 use Rattle.terms.specs.declared.Settings.{Settings}
 use Rattle.terms.specs.declared.Answer.{Answer}
-use Rattle.terms.specs.declared.Answer.the-variants.{Wrote, Refused}
+use Rattle.terms.specs.declared.Answer.the-variants.{Refused}
 use Rattle.terms.specs.declared.Refusal.{Refusal}
 use Rattle.terms.specs.declared.Refusal.the-variants.{SettingsOutOfRange, LogTooLong, NoSuchSegment, RoomTooShort, BayNotDone, BayMalformed}
 use Rattle.terms.specs.Refusals.{numberOf}
 use Rattle.terms.specs.Settings.{inRange}
 use Rattle.terms.specs.Answers.{answerNumber, unless, longest, roomFor}
-use Rattle.cutting.specs.WholeLog.{writtenAnswer, writtenList}
+use Rattle.cutting.specs.WholeLog.{writtenAnswer}
 use Rattle.board.specs.declared.Verdict.{Verdict}
 use Rattle.board.specs.declared.Verdict.the-variants.{Granted, Denied}
 use Rattle.board.specs.Segments.{segments, boardFits, segmentFits}
-use Rattle.board.specs.Records.{Record}
 use Rattle.board.specs.Bays.{bayOf, isDone, isSound}
 use Rattle.board.specs.Merging.{judged, ifGranted, bayJudged, baysJudged, mergeJudged, boardWalk, mergeAnswer, mergeList}
-use Rattle.board.specs.Recording.{segmentOf, recordFits, recordAnswer, recorded, withBay, segmentAnswer, segmentBoard}
+use Rattle.board.specs.Recording.{segmentOf, recordFits, recordAnswer, segmentAnswer}
 use Rattle.promises.specs.Rows.{Row, row, whether, firstRow, segmentRows, bayRows, mergeRows}
 use Rattle.promises.proofs.Rows.{unless-not, unless-at-most}
 use Rattle.promises.proofs.Leaves.{Leaves, guard-leaves}

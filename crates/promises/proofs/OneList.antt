@@ -3,7 +3,7 @@ use Prim.Native.Nat.{ℕ, _+_, _-_, _%_, _^_, _≤_, _<_}
 use mathlib.Core.Path.{_≡_, refl, sym, ap, _∙_}
 use mathlib.Core.Bool.{Bool, true, false}
 use mathlib.Core.Logic.{_↔_}
-use mathlib.Core.List.{List}
+use mathlib.Core.List.{List, List·Permᴰ}
 use native.Mathlib.Omega.{arith}
 use lib.Bits.{bitXor}
 use lib.Dec.{leb, lit<}
@@ -25,6 +25,15 @@ use Rattle.signature.proofs.Remainders.{rem-exactly}
 use Rattle.cutting.specs.Marks.{mark, matches, cutList}
 use Rattle.carry.specs.SinglePass.{Lent, joined, Roomy, writtenBy}
 use Rattle.carry.proofs.SinglePass as carry
+use Rattle.board.specs.Segments.{segments}
+use Rattle.board.specs.Bays.{bayOf, Holds}
+use Rattle.board.specs.declared.Verdict.the-variants.{Granted}
+use Rattle.board.specs.Merging.{boardWalk, baysJudged}
+use Rattle.board.specs.Recording.{segmentOf, recordAll}
+use Rattle.board.proofs.Merged as merging
+use Rattle.board.proofs.Accepted as accepted
+use Rattle.board.proofs.Orders as orders
+use Rattle.terms.proofs.Ranges.{ranges}
 use Rattle.cutting.specs.WholeLog.{cutLogAnswer, cutLogList, writtenAnswer, writtenList}
 
 -- a mark lies from 48 to the log's end; the 48 bytes before it, as a polynomial, leave by x^31 + x^3 + 1 a remainder whose low K bits are the target
@@ -95,3 +104,24 @@ whole-log s log list k e =
 pub single-pass : (s : Settings) (calls : List Lent) (last : List ℕ) → inRange s ≡ true → length (joined calls) ≤ longest
     → Roomy (s .minimum) calls → 1 ≤ length last → writtenBy s calls last ≡ cutList s (joined calls)
 single-pass = carry.single-pass
+
+-- for any segment size, where each bay holds its segment's record, the walk over the bays is the log's list
+pub merged : (s : Settings) (log : List ℕ) (size width : ℕ) (board : List ℕ) → inRange s ≡ true → 0 < size
+    → ((i : ℕ) → i < segments size (length log) → Holds (bayOf width board i) (segmentOf (mark s log) s (length log) size i))
+    → boardWalk s (length log) size width board ≡ cutList s log
+merged s log size width board ok sized held =
+    let in-range = ranges s ok in
+    merging.merged-board (mark s log) s (omega (arith, in-range .window-fits)) (in-range .ordered) size (length log) sized width board held
+
+-- such a board is never refused by 8 or 9
+pub true-bays-accepted : (s : Settings) (log : List ℕ) (size width : ℕ) (board : List ℕ) → inRange s ≡ true → 0 < size
+    → ((i : ℕ) → i < segments size (length log) → Holds (bayOf width board i) (segmentOf (mark s log) s (length log) size i))
+    → baysJudged s size width (length log) board (segments size (length log)) 0 ≡ Granted
+true-bays-accepted s log size width board ok sized held =
+    let in-range = ranges s ok in
+    accepted.true-bays-accepted s (mark s log) (omega (arith, in-range .window-fits)) (in-range .ordered) size (length log) sized width board held
+
+-- segment calls in any order of a permutation give the same board
+pub any-order : (s : Settings) (log : List ℕ) (size width : ℕ) {is js : List ℕ} → List·Permᴰ is js → (board : List ℕ)
+    → recordAll (mark s log) s (length log) size width is board ≡ recordAll (mark s log) s (length log) size width js board
+any-order s log size width = orders.any-order (mark s log) s (length log) size width
