@@ -1,26 +1,28 @@
 -- `rows` and `refused-leaves` for segments and merging.
-use Prim.Native.Nat.{ℕ, zero, suc}
+use Prim.Native.Nat.{ℕ, zero, suc, _+_, _-_, _<_}
 use mathlib.Core.Path.{_≡_, refl, ap, _∙_}
 use mathlib.Core.Bool.{Bool, true, false, not}
 use mathlib.Core.List.{List, [], _∷_}
 use native.Mathlib.Omega.{arith}
-use lib.Dec.{leb, ltb}
-use lib.ListN.{length}
+use lib.Dec.{leb, ltb, lit<}
+use lib.ListN.{length, take}
+use Rattle.laws.specs.Over.{over}
 use Rattle.terms.specs.declared.Settings.{Settings}
 use Rattle.terms.specs.declared.Answer.{Answer}
-use Rattle.terms.specs.declared.Answer.the-variants.{Refused}
+use Rattle.terms.specs.declared.Answer.the-variants.{Wrote, Refused}
 use Rattle.terms.specs.declared.Refusal.{Refusal}
-use Rattle.terms.specs.declared.Refusal.the-variants.{SettingsOutOfRange, LogTooLong, NoSuchSegment, RoomTooShort, BayNotDone, BayMalformed}
+use Rattle.terms.specs.declared.Refusal.the-variants.{SettingsOutOfRange, LogTooLong, NoSuchSegment, RoomTooShort, BayNotDone, BayMalformed, RecordTooLong}
 use Rattle.terms.specs.Refusals.{numberOf}
 use Rattle.terms.specs.Settings.{inRange}
 use Rattle.terms.specs.Answers.{answerNumber, unless, longest, roomFor}
 use Rattle.cutting.specs.WholeLog.{writtenAnswer}
 use Rattle.board.specs.declared.Verdict.{Verdict}
 use Rattle.board.specs.declared.Verdict.the-variants.{Granted, Denied}
-use Rattle.board.specs.Segments.{segments, boardFits, segmentFits}
+use Rattle.board.specs.Segments.{segments, boardFits, bayFits, segmentFits}
+use Rattle.board.specs.Records.{Record, entries}
 use Rattle.board.specs.Bays.{bayOf, isDone, isSound}
 use Rattle.board.specs.Merging.{judged, ifGranted, bayJudged, baysJudged, mergeJudged, boardWalk, mergeAnswer, mergeList}
-use Rattle.board.specs.Recording.{segmentOf, recordFits, recordAnswer, segmentAnswer}
+use Rattle.board.specs.Recording.{segmentOf, recordFits, recordAnswer, recorded, bayAnswer, bayAfter, segmentAnswer}
 use Rattle.promises.specs.Rows.{Row, row, whether, firstRow, segmentRows, bayRows, mergeRows}
 use Rattle.promises.proofs.Rows.{unless-not, unless-at-most}
 use Rattle.promises.proofs.Leaves.{Leaves, guard-leaves}
@@ -80,43 +82,43 @@ segment-rows mark s n size i width numbers =
     ∙ ap (λ later. whether (not (inRange s)) 1 (whether (ltb longest n) 2 (whether (not (segmentFits size width n i numbers)) 7 later)))
     (unless-not answerNumber (recordFits (segmentOf mark s n size i) width) refl refl)
 
--- a verdict that is not the guard's
-record Plain (verdict : Verdict) : Type 0 where
-  other : verdictOr 0 verdict ≡ 17 → ⊥
+-- a verdict whose number is not k
+record Plain (k : ℕ) (verdict : Verdict) : Type 0 where
+  other : verdictOr 0 verdict ≡ k → ⊥
 
-plain-row : (passes : Bool) (why : Refusal) {verdict : Verdict} → (numberOf why ≡ 17 → ⊥) → Plain verdict → Plain (unless passes (Denied why) verdict)
+plain-row : {k : ℕ} (passes : Bool) (why : Refusal) {verdict : Verdict} → (numberOf why ≡ k → ⊥) → Plain k verdict → Plain k (unless passes (Denied why) verdict)
 plain-row true why differs later = later
 plain-row false why differs later = record { other = differs }
 
-plain-then : (verdict : Verdict) {next : Verdict} → Plain verdict → Plain next → Plain (ifGranted verdict Denied next)
+plain-then : {k : ℕ} (verdict : Verdict) {next : Verdict} → Plain k verdict → Plain k next → Plain k (ifGranted verdict Denied next)
 plain-then Granted itself later = later
 plain-then (Denied why) itself later = itself
 
-plain-granted : Plain Granted
-plain-granted = record { other = omega arith }
+plain-granted : (k : ℕ) → (0 ≡ k → ⊥) → Plain k Granted
+plain-granted k above = record { other = above }
 
-plain-bays : (s : Settings) (n size width : ℕ) (board : List ℕ) (k i : ℕ) → Plain (baysJudged s size width n board k i)
+plain-bays : (s : Settings) (n size width : ℕ) (board : List ℕ) (k i : ℕ) → Plain 17 (baysJudged s size width n board k i)
 unfolding baysJudged bayJudged
-plain-bays s n size width board zero i = plain-granted
+plain-bays s n size width board zero i = plain-granted 17 (omega arith)
 plain-bays s n size width board (suc k) i =
     let bay = bayOf width board i in
     plain-then (bayJudged s size n i bay)
-    (plain-row (isDone bay) BayNotDone (omega arith) (plain-row (isSound (s .minimum) (s .maximum) size n i bay) BayMalformed (omega arith) plain-granted))
+    (plain-row (isDone bay) BayNotDone (omega arith) (plain-row (isSound (s .minimum) (s .maximum) size n i bay) BayMalformed (omega arith) (plain-granted 17 (omega arith))))
     (plain-bays s n size width board k (suc i))
 
-plain-judged : (s : Settings) (n : ℕ) (fits : Bool) → Plain (judged s n fits)
+plain-judged : (k : ℕ) → 2 < k → (7 ≡ k → ⊥) → (s : Settings) (n : ℕ) (fits : Bool) → Plain k (judged s n fits)
 unfolding judged
-plain-judged s n fits =
+plain-judged k above seven s n fits =
     plain-row (inRange s) SettingsOutOfRange (omega arith)
-    (plain-row (leb n longest) LogTooLong (omega arith) (plain-row fits NoSuchSegment (omega arith) plain-granted))
+    (plain-row (leb n longest) LogTooLong (omega arith) (plain-row fits NoSuchSegment seven (plain-granted k (omega arith))))
 
-plain-merge : (s : Settings) (n size width : ℕ) (board : List ℕ) (room : ℕ) → Plain (mergeJudged s n size width board room)
+plain-merge : (s : Settings) (n size width : ℕ) (board : List ℕ) (room : ℕ) → Plain 17 (mergeJudged s n size width board room)
 unfolding mergeJudged
 plain-merge s n size width board room =
-    plain-then (judged s n (boardFits size width n (length board))) (plain-judged s n (boardFits size width n (length board)))
+    plain-then (judged s n (boardFits size width n (length board))) (plain-judged 17 (lit< tt) (omega arith) s n (boardFits size width n (length board)))
     (plain-row (leb (roomFor (s .minimum) n) room) RoomTooShort (omega arith) (plain-bays s n size width board (segments size n) 0))
 
-granted-leaves : (verdict : Verdict) (answer : Answer) {before after cuts : List ℕ} → Plain verdict → Leaves (answerNumber answer) before after cuts
+granted-leaves : (verdict : Verdict) (answer : Answer) {before after cuts : List ℕ} → Plain 17 verdict → Leaves (answerNumber answer) before after cuts
     → Leaves (answerNumber (ifGranted verdict Refused answer)) before (ifGranted verdict (λ why. before) after) cuts
 unfolding answerNumber
 granted-leaves Granted answer plain later = later
@@ -130,3 +132,30 @@ merge-leaves s n size width board list =
     let walk = boardWalk s n size width board in
     granted-leaves (mergeJudged s n size width board (length list)) (writtenAnswer walk (length list)) (plain-merge s n size width board (length list))
     (guard-leaves answerNumber (leb (length walk) (length list)) walk list refl refl)
+
+-- what recording leaves in a bay lent alone: 6 marks it not done and fills it as far as it goes, every other refusal leaves it as it was
+pub record BayLeaves (number : ℕ) (offsets before after : List ℕ) : Type 0 where
+  pub untouched : (number ≡ 0 → ⊥) → (number ≡ 6 → ⊥) → after ≡ before
+  pub too-long : number ≡ 6 → after ≡ 0 ∷ 0 ∷ take (length before - 2) offsets
+
+fitting-leaves : (fits : Bool) (r : Record) (bay : List ℕ)
+    → BayLeaves (answerNumber (unless fits (Refused RecordTooLong) (Wrote (2 + length (r .offsets))))) (r .offsets) bay
+    (unless fits (0 ∷ 0 ∷ take (length bay - 2) (r .offsets)) (over (entries r) bay))
+unfolding answerNumber
+fitting-leaves true r bay = record { untouched = λ refusal long. absurd (refusal refl); too-long = λ long. absurd (omega arith) }
+fitting-leaves false r bay = record { untouched = λ refusal long. absurd (long refl); too-long = λ long. refl }
+
+granted-bay : (verdict : Verdict) (answer : Answer) {offsets before after : List ℕ} → Plain 6 verdict → BayLeaves (answerNumber answer) offsets before after
+    → BayLeaves (answerNumber (ifGranted verdict Refused answer)) offsets before (ifGranted verdict (λ why. before) after)
+unfolding answerNumber
+granted-bay Granted answer plain later = later
+granted-bay (Denied why) answer plain later =
+    record { untouched = λ refusal long. refl; too-long = λ long. absurd (plain .other long) }
+
+pub record-leaves : (mark : ℕ → Bool) (s : Settings) (n size i : ℕ) (bay : List ℕ)
+    → BayLeaves (answerNumber (bayAnswer mark s n size i (length bay))) (segmentOf mark s n size i .offsets) bay (bayAfter mark s n size i bay)
+unfolding bayAnswer bayAfter recordAnswer recorded
+record-leaves mark s n size i bay =
+    let r = segmentOf mark s n size i in
+    granted-bay (judged s n (bayFits size (length bay) n i)) (recordAnswer r (length bay)) (plain-judged 6 (lit< tt) (omega arith) s n (bayFits size (length bay) n i))
+    (fitting-leaves (recordFits r (length bay)) r bay)
