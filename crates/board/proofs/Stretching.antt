@@ -17,7 +17,8 @@ use Rattle.signature.specs.Signatures.{degree, lowPart, rolled, signatureOf, wi
 use Rattle.signature.proofs.Windows.{Bytes, roll-slides}
 use Rattle.cutting.specs.Marks.{matches, mark, nextCut}
 use Rattle.cutting.proofs.Marked.{mark-within}
-use Rattle.cutting.proofs.Searching.{Searching, mask-is}
+use Rattle.cutting.proofs.Masked.{mask-is}
+use Rattle.cutting.proofs.Searching.{Searching}
 use Rattle.board.specs.declared.recording.Sought.{Sought}
 use Rattle.board.specs.declared.walk.Made.{Made}
 use Rattle.board.specs.Walk.{Puts}

@@ -1,14 +1,7 @@
 pub mod Rows
-pub mod Copies
+pub mod Usable
+pub mod OneByte
+pub mod Sees
 pub mod Bytes
 pub mod Parts
-pub mod FirstCut
-pub mod Seen
-pub mod Filling
-pub mod LastByte
-pub mod TakenBlock
-pub mod Blocks
 pub mod Room
-pub mod Prefix
-pub mod Closing
-pub mod SinglePass

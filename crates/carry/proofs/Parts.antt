@@ -1,4 +1,4 @@
--- What a block leaves in each part of the carry.
+-- What a block leaves in each part of the carry, but for the bytes since the last cut.
 use Prim.Native.Nat.{ℕ, _+_}
 use mathlib.Core.Path.{_≡_, refl, sym, ap, _∙_}
 use mathlib.Core.List.{List, [], _∷_, append-nil}
@@ -7,14 +7,12 @@ use native.Mathlib.Omega.{arith}
 use lib.ListN.{length, drop, length-append, length-drop}
 use Rattle.signature.specs.Signatures.{signatureOf}
 use Rattle.carry.specs.declared.Carry.{Carry}
-use Rattle.carry.specs.Carries.{slid, byteTaken, blockTaken}
-use Rattle.carry.specs.Taking.{slidBy, advancedBy}
-use Rattle.carry.proofs.Bytes.{length-slid, slid-on, later-window}
+use Rattle.carry.specs.Carries.{slid, slidBy, byteTaken, blockTaken}
+use Rattle.carry.proofs.Sees.{length-slid, slid-on, later-window}
 
 pub length-slid-by : (w block : List ℕ) → length w ≡ 48 → length (slidBy w block) ≡ 48
 length-slid-by w block e = simp (length-drop, length-append) (omega arith)
 
--- d is c with a block taken, but for the bytes since the last cut
 pub record Parts (c : Carry) (block : List ℕ) (d : Carry) : Type 0 where
   pub settings-kept : d .settings ≡ c .settings
   pub taken-grown : d .taken ≡ c .taken + length block
@@ -23,8 +21,8 @@ pub record Parts (c : Carry) (block : List ℕ) (d : Carry) : Type 0 where
   pub closed-kept : d .closed ≡ c .closed
 
 slid-by-more : (w : List ℕ) (b : ℕ) (bs : List ℕ) → length w ≡ 48 → slidBy (slid w b) bs ≡ slidBy w (b ∷ bs)
-slid-by-more w b [] e = ap (drop 0) (slid-on w b [] e)
-slid-by-more w b (x ∷ xs) e = sym (later-window w b (x ∷ xs) (length xs) e)
+slid-by-more w b [] e = ap (drop 0) (slid-on w b e [])
+slid-by-more w b (x ∷ xs) e = sym (later-window w b e (x ∷ xs) (length xs))
 
 pub parts : (block : List ℕ) (c : Carry) → length (c .window) ≡ 48 → c .signature ≡ signatureOf (c .window) → Parts c block (blockTaken c block)
 unfolding byteTaken blockTaken
@@ -44,20 +42,4 @@ parts (b ∷ bs) c whole sig =
       window-slid = rest .window-slid ∙ slid-by-more (c .window) b bs whole;
       signature-true = rest .signature-true;
       closed-kept = rest .closed-kept;
-    }
-
--- the whole carry, where the bytes since the last cut are known
-pub block-taken : (block : List ℕ) (c : Carry) (since : ℕ) → length (c .window) ≡ 48 → c .signature ≡ signatureOf (c .window)
-    → blockTaken c block .since ≡ since
-    → blockTaken c block ≡ advancedBy c (length block) since (slidBy (c .window) block) (signatureOf (slidBy (c .window) block))
-block-taken block c since whole sig e =
-    let p = parts block c whole sig in
-    λ i.
-    record {
-      settings = p .settings-kept i;
-      taken = p .taken-grown i;
-      since = e i;
-      window = p .window-slid i;
-      signature = (p .signature-true ∙ ap signatureOf (p .window-slid)) i;
-      closed = p .closed-kept i;
     }

@@ -1,7 +1,7 @@
 -- The rows that judge every carry: one verdict decides what each call makes of them.
 use Prim.Native.Nat.{ℕ}
 use mathlib.Core.Path.{_≡_, sym, ap, _∙_}
-use mathlib.Core.Bool.{true, not}
+use mathlib.Core.Bool.{true, false, not}
 use native.Mathlib.Omega.{arith}
 use Rattle.laws.proofs.Cases.{by-test}
 use Rattle.terms.specs.declared.Refusal.{Refusal}
@@ -11,7 +11,7 @@ use Rattle.carry.specs.declared.Carry.{Carry}
 use Rattle.carry.specs.declared.order.Verdict.{Verdict}
 use Rattle.carry.specs.declared.order.Verdict.the-variants.{Fine, Wrong}
 use Rattle.carry.specs.Carries.{inOrder}
-use Rattle.carry.specs.Calls.{carryRows}
+use Rattle.carry.specs.Outcomes.{carryRows}
 
 abbrev pub ruled : {A : Type 0} → (Refusal → A) → A → Verdict → A
 ruled refuse fine Fine = fine
@@ -31,6 +31,10 @@ module _ {A : Type 0} (c : Carry) (refuse : Refusal → A) (fine : A) {v : Verdi
 
   pub admitted-by : v ≡ Fine → carryRows c refuse fine ≡ fine
   admitted-by e = judged c refuse fine ∙ ap (ruled refuse fine) (sym told ∙ e)
+
+-- a carry in range and in order that is open is judged fine
+pub judged-fine : (c : Carry) → inRange (c .settings) ≡ true → inOrder c ≡ true → c .closed ≡ false → carryRows c Wrong Fine ≡ Fine
+judged-fine c ranged ordered open-still = rw (ranged, ordered, ap not open-still)
 
 -- a carry that is judged fine has its settings in range and is in order
 pub fine-parts : (c : Carry) {v : Verdict} → v ≡ carryRows c Wrong Fine → v ≡ Fine → (inRange (c .settings) ≡ true) × (inOrder c ≡ true)

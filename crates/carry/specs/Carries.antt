@@ -3,7 +3,7 @@ use Prim.Native.Nat.{ℕ, _+_, _-_}
 use mathlib.Core.Bool.{Bool, true, false, _&&_, _||_}
 use mathlib.Core.List.{List, [], _∷_, _++_}
 use lib.Dec.{leb, ltb, eqb}
-use lib.ListN.{take, drop, replicate}
+use lib.ListN.{length, take, drop, replicate}
 use Rattle.terms.specs.declared.Settings.{Settings}
 use Rattle.terms.specs.Answers.{longest}
 use Rattle.signature.specs.Signatures.{signatureOf}
@@ -39,6 +39,10 @@ freshCarry s =
 -- the last 48 bytes, one byte later
 abbrev pub slid : List ℕ → ℕ → List ℕ
 slid window b = drop 1 window ++ (b ∷ [])
+
+-- and a whole block later
+abbrev pub slidBy : List ℕ → List ℕ → List ℕ
+slidBy window block = drop (length block) (window ++ block)
 
 -- whether the byte b, taken next, ends a piece: the piece is then at least minimum long, and its end is a mark or it is maximum long
 unfoldable pub cutsAt : Carry → ℕ → Bool

@@ -1,4 +1,2 @@
 pub mod Carries
-pub mod Taking
-pub mod Calls
-pub mod SinglePass
+pub mod Outcomes

@@ -1,15 +1,11 @@
-// The single pass: a log cut as it arrives, block by block, with what is carried from one block to the next.
+// What the single pass carries from one block to the next, and what each of its calls hands back.
 ghost use mathlib.Core.Path.{_≡_};
-ghost use Rattle.carry.specs.Carries.{freshCarry};
-ghost use lib.ListN.{length};
-ghost use Rattle.carry.specs.Calls.{refused, closedCarry, freshOf, blockOf, blockList, closeOf, closeList};
-use order::Verdict;
+ghost use Rattle.carry.specs.Outcomes.{refused};
 use terms::Answer;
 use terms::Refusal;
 use terms::Settings;
 
 pub mod order;
-pub mod taking;
 
 // What the one-pass cutter carries over a block's edge.
 #[repr(C)]
@@ -30,115 +26,12 @@ pub struct Outcome {
     pub carry: Carry,
 }
 
-// A carry that has taken nothing.
-fn untouched(settings: Settings) -> Carry
-    ensures { λ r. ⌜ r ≡ freshCarry settings ⌝ }
-{
-    Carry {
-        settings: settings,
-        taken: 0,
-        since: 0,
-        window: [0; 48],
-        signature: 0,
-        closed: false,
-    }
-}
-
 // A refusal hands the carry back as it was.
-fn refuse(carry: Carry, why: Refusal) -> Outcome
+pub fn refuse(carry: Carry, why: Refusal) -> Outcome
     ensures { λ r. ⌜ r ≡ refused carry why ⌝ }
 {
     Outcome {
         answer: Answer::Refused(why),
         carry: carry,
-    }
-}
-
-// The carry that a log starts with.
-pub fn fresh(settings: Settings) -> Outcome
-    ensures { λ r. ⌜ r ≡ freshOf settings ⌝ }
-{
-    if !settings.in_range() {
-        let nothing = Settings {
-            bits: 0,
-            target: 0,
-            minimum: 0,
-            maximum: 0,
-        };
-        return Outcome {
-            answer: Answer::Refused(Refusal::SettingsOutOfRange),
-            carry: untouched(nothing),
-        };
-    }
-    Outcome {
-        answer: Answer::Wrote(0),
-        carry: untouched(settings),
-    }
-}
-
-// Takes the next bytes of the log, and writes the cuts among them.
-pub fn block(carry: Carry, bytes: &[u8], list: &mut [u64]) -> Outcome
-    ensures { λ r. ⌜ r ≡ blockOf carry (now (bytes .entry)) (length (now (list .entry))) ⌝ }
-    ensures { λ _. ⌜ now (list .exit) ≡ blockList carry (now (bytes .entry)) (now (list .entry)) ⌝ }
-{
-    let verdict = order::judge(carry);
-    if let Verdict::Wrong(why) = verdict {
-        return refuse(carry, why);
-    }
-    let count = bytes.len() as u64;
-    if carry.taken + count > terms::LONGEST {
-        return refuse(carry, Refusal::LogTooLong);
-    }
-    let minimum = carry.settings.minimum;
-    let places = list.len() as u64;
-    if places < count / minimum + 1 {
-        return refuse(carry, Refusal::RoomTooShort);
-    }
-    if count == 0 {
-        return Outcome {
-            answer: Answer::Wrote(0),
-            carry: carry,
-        };
-    }
-    taking::take_block(carry, bytes, list)
-}
-
-fn shut(carry: Carry) -> Carry
-    ensures { λ r. ⌜ r ≡ closedCarry carry ⌝ }
-{
-    let settings = carry.settings;
-    let window = carry.window;
-    Carry {
-        settings: settings,
-        taken: carry.taken,
-        since: carry.since,
-        window: window,
-        signature: carry.signature,
-        closed: true,
-    }
-}
-
-// Ends the log: its end is written where it is not yet a cut.
-pub fn close(carry: Carry, list: &mut [u64]) -> Outcome
-    ensures { λ r. ⌜ r ≡ closeOf carry (length (now (list .entry))) ⌝ }
-    ensures { λ _. ⌜ now (list .exit) ≡ closeList carry (now (list .entry)) ⌝ }
-{
-    let verdict = order::judge(carry);
-    if let Verdict::Wrong(why) = verdict {
-        return refuse(carry, why);
-    }
-    if list.len() < 1 {
-        return refuse(carry, Refusal::RoomTooShort);
-    }
-    if carry.since > 0 {
-        list[0] = carry.taken;
-        return Outcome {
-            answer: Answer::Wrote(1),
-            carry: shut(carry),
-        };
-    }
-    Outcome {
-        answer: Answer::Wrote(0),
-        carry: shut(carry),
     }
 }

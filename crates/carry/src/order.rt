@@ -2,7 +2,7 @@
 ghost use mathlib.Core.Path.{_≡_};
 ghost use Prim.Native.Nat.{_-_};
 ghost use Rattle.carry.specs.Carries.{allZero, inOrder};
-ghost use Rattle.carry.specs.Calls.{carryRows};
+ghost use Rattle.carry.specs.Outcomes.{carryRows};
 ghost use Rattle.carry.specs.declared.order.Verdict.the-variants.{Wrong, Fine};
 use super::Carry;
 use terms::Refusal;

@@ -4,7 +4,6 @@ use mathlib.Core.Path.{_≡_, refl, sym, ap, _∙_, subst}
 use mathlib.Core.List.{List, [], _∷_, _++_, append-nil}
 use native.Mathlib.Omega.{arith}
 use lib.ListN.{length, set, length-append}
-use lib.Seq.{take-append-seam, take-all}
 use borrow.Author.Tests.{le-leb, lt-leb}
 use Rattle.laws.specs.Over.{over}
 use Rattle.laws.proofs.Writing.{over-none, over-more, length-over}
@@ -13,6 +12,7 @@ use Rattle.terms.specs.declared.Refusal.the-variants.{ListFull}
 use Rattle.rule.specs.Rule.{chain}
 use Rattle.rule.proofs.Chain.{Run, stay, onward, Rising, run-joined, parted, opened, at-end}
 use Rattle.cutting.specs.WholeLog.{writtenAnswer, writtenList}
+use Rattle.cutting.proofs.Written.{written-whole, written-full}
 
 -- the cuts before and up to `cut` are written over the first entries of list₀
 pub record Filled (next : ℕ → ℕ) (n : ℕ) (list₀ list : List ℕ) (cut count : ℕ) : Type 0 where
@@ -46,23 +46,23 @@ module _ {next : ℕ → ℕ} {n : ℕ} (ok : Rising next n) {list₀ list : Lis
   -- full before the end is reached
   pub full : cut < n → count ≡ length list₀
       → (Refused ListFull ≡ writtenAnswer (chain next n (n - 0) 0) (length list₀)) × (list ≡ writtenList (chain next n (n - 0) 0) list₀)
-  unfolding writtenAnswer writtenList
+  unfolding writtenAnswer
   full below e =
       let all : chain next n (n - 0) 0 ≡ f .cuts ++ (next cut ∷ chain next n (n - next cut) (next cut)) =
       parted next n ok (f .run) ∙ ap (λ l. f .cuts ++ l) (opened next n ok cut below) in
       let long : length list₀ < length (chain next n (n - 0) 0) = rw (all, length-append) (omega (arith, f .counted)) in (
         rw (lt-leb _ _ long),
-        f .kept ∙ ap (λ l. over l list₀) (sym (rw (all, sym e ∙ f .counted) (take-append-seam (f .cuts) _))),
+        f .kept ∙ sym (rw all (written-full (f .cuts) _ list₀ (sym (f .counted) ∙ e))),
       )
 
   -- the end is reached
   pub done : n ≤ cut
       → (Wrote count ≡ writtenAnswer (chain next n (n - 0) 0) (length list₀)) × (list ≡ writtenList (chain next n (n - 0) 0) list₀)
-  unfolding writtenAnswer writtenList
+  unfolding writtenAnswer
   done past =
       let all : chain next n (n - 0) 0 ≡ f .cuts =
       parted next n ok (f .run) ∙ ap (λ l. f .cuts ++ l) (at-end next n (n - cut) cut past) ∙ append-nil (f .cuts) in
       let short : length (chain next n (n - 0) 0) ≤ length list₀ = rw all (omega (arith, f .counted, f .fits)) in (
         rw (le-leb _ _ short, all) (ap Wrote (f .counted)),
-        f .kept ∙ ap (λ l. over l list₀) (sym (take-all (length list₀) _ short ∙ all)),
+        f .kept ∙ sym (rw all (written-whole (f .cuts) list₀ (omega (arith, f .counted, f .fits)))),
       )

@@ -1,3 +1,5 @@
 pub mod Marked
+pub mod Masked
 pub mod Searching
+pub mod Written
 pub mod Filling

@@ -1,14 +1,11 @@
 -- The search for the next mark, over numbers and lists alone: what is known at each offset, and what that says where it stops.
 use Prim.Native.Nat.{ℕ, suc, _+_, _-_, _*_, _%_, _^_, _≤_, _<_, min}
 use mathlib.Core.Path.{_≡_, refl, sym, ap, _∙_}
-use mathlib.Core.Bool.{true, false}
+use mathlib.Core.Bool.{Bool, true, false}
 use mathlib.Core.List.{List}
 use native.Mathlib.Omega.{arith}
-use lib.Bits.{bitAnd, and-mask}
-use lib.Dec.{lit<}
+use lib.Bits.{bitAnd}
 use lib.ListN.{length, getD}
-use lib.Pow.{shl-exact}
-use borrow.Author.Tests.{eq-eqb, ne-eqb}
 use Rattle.laws.proofs.Cases.{by-lt}
 use Rattle.terms.specs.declared.Settings.{Settings}
 use Rattle.rule.specs.Rule.{firstMark, next, Unmarked}
@@ -18,6 +15,7 @@ use Rattle.laws.specs.Bytes.{Bytes}
 use Rattle.signature.proofs.Windows.{roll-slides}
 use Rattle.cutting.specs.Marks.{matches, mark, nextCut}
 use Rattle.cutting.proofs.Marked.{mark-within}
+use Rattle.cutting.proofs.Masked.{matched, unmatched}
 
 -- at an offset of the search: the signature there, and no match before it
 pub record Searching (log : List ℕ) (first last mask target signature at : ℕ) : Type 0 where
@@ -52,29 +50,17 @@ turn log bytes {first} {last} {mask} {target} {s} {at} r h fits now-at miss shor
           miss (ap (λ x. bitAnd x mask) (now-at .here ∙ ap (λ x. signatureOf (window log (x - 48))) same) ∙ m));
     }
 
--- the low k bits, as the code makes them
-pub mask-is : (k : ℕ) → k ≤ 31 → 1 * 2 ^ k % 2 ^ 32 - 1 ≡ 2 ^ k - 1
-mask-is k h = rw (shl-exact {a = 1} 1 k 32 (lit< tt) (omega arith)) (omega arith)
-
 -- where the search stops, for the mask of the settings' low bits
 module _ (s : Settings) (log : List ℕ) {first last : ℕ} (low : 48 ≤ first) (fits : last ≤ length log) (few : s .bits ≤ 31) where
-  -- a match of the masked signature is a match of its low bits
-  masked : (signature : ℕ) → bitAnd signature (1 * 2 ^ s .bits % 2 ^ 32 - 1) ≡ signature % 2 ^ s .bits
-  masked signature = ap (bitAnd signature) (mask-is (s .bits) few) ∙ and-mask signature (s .bits)
-
   marked : (at signature : ℕ) → first ≤ at → at ≤ last → signature ≡ signatureOf (window log (at - 48))
       → bitAnd signature (1 * 2 ^ s .bits % 2 ^ 32 - 1) ≡ s .target → mark s log at ≡ true
-  unfolding matches
   marked at signature a b is-s e =
-      mark-within s log at (omega arith) (omega arith)
-      ∙ eq-eqb _ _ (ap (λ x. x % 2 ^ s .bits) (sym is-s) ∙ sym (masked signature) ∙ e)
+      mark-within s log at (omega arith) (omega arith) ∙ ap (matches s) (sym is-s) ∙ matched s few signature e
 
   unmarked : (at signature : ℕ) → first ≤ at → at ≤ last → signature ≡ signatureOf (window log (at - 48))
       → (bitAnd signature (1 * 2 ^ s .bits % 2 ^ 32 - 1) ≡ s .target → ⊥) → mark s log at ≡ false
-  unfolding matches
   unmarked at signature a b is-s ne =
-      mark-within s log at (omega arith) (omega arith)
-      ∙ ne-eqb _ _ (λ e. ne (masked signature ∙ ap (λ x. x % 2 ^ s .bits) is-s ∙ e))
+      mark-within s log at (omega arith) (omega arith) ∙ ap (matches s) (sym is-s) ∙ unmatched s few signature ne
 
   none-passed : {at signature : ℕ} → Searching log first last (1 * 2 ^ s .bits % 2 ^ 32 - 1) (s .target) signature at
       → Unmarked (mark s log) first at
@@ -99,14 +85,13 @@ module _ (s : Settings) (log : List ℕ) {first last : ℕ} (low : 48 ≤ first)
       (λ k. let same : q ≡ at = omega arith in
       ap (mark s log) same ∙ unmarked at signature b (omega arith) (now-at .here) ne)))
 
--- the next cut, from the last offset that is looked at
-module _ (s : Settings) (log : List ℕ) (c last : ℕ) (is-last : last ≡ min (c + s .maximum) (length log)) where
-  pub searched : (r : ℕ) → r ≡ firstMark (mark s log) (suc last - (c + s .minimum)) (c + s .minimum) last → r ≡ nextCut s log c
-  unfolding next
-  searched r e = e ∙ ap (λ l. firstMark (mark s log) (suc l - (c + s .minimum)) (c + s .minimum) l) is-last
+-- where there is no offset to look at, the search gives the last
+pub too-near : (mark : ℕ → Bool) (first last : ℕ) → last < first → last ≡ firstMark mark (suc last - first) first last
+too-near mark first last h = sym (first-none mark last (suc last - first) first (λ q a b. absurd (omega arith)))
 
-  -- where the log ends before a mark could count, nothing is looked at
-  pub too-near : last < c + s .minimum → last ≡ nextCut s log c
-  too-near h =
-      searched last
-      (sym (first-none (mark s log) last (suc last - (c + s .minimum)) (c + s .minimum) (λ q a b. absurd (omega arith))))
+-- the next cut, from the last offset that is looked at
+pub searched : (s : Settings) (log : List ℕ) (c last r : ℕ) → last ≡ min (c + s .maximum) (length log)
+    → r ≡ firstMark (mark s log) (suc last - (c + s .minimum)) (c + s .minimum) last → r ≡ nextCut s log c
+unfolding next
+searched s log c last r is-last e =
+    e ∙ ap (λ l. firstMark (mark s log) (suc l - (c + s .minimum)) (c + s .minimum) l) is-last

@@ -10,7 +10,7 @@ ghost use Rattle.cutting.specs.Marks.{mark, nextCut};
 use terms::Settings;
 
 // The first mark from one offset to another, or the latter where there is none.
-fn first_mark(
+pub fn first_mark(
     settings: Settings,
     log: &[u8],
     first: usize,
@@ -19,10 +19,13 @@ fn first_mark(
     pushed: &[u32; 256],
 ) -> usize
     requires { ⌜ inRange settings ≡ true ⌝ }
-    requires { ⌜ (48 ≤ first) × (first ≤ last) × (last ≤ length (now log)) ⌝ }
+    requires { ⌜ (48 ≤ first) × (last ≤ length (now log)) ⌝ }
     requires { ⌜ (now leaving ≡ leavingTable) × (now pushed ≡ pushedTable) ⌝ }
     ensures { λ r. ⌜ r ≡ firstMark (mark settings (now (log .entry))) (suc last - first) first last ⌝ }
 {
+    if last < first {
+        return last;
+    }
     let mask: u32 = (1 << settings.bits) - 1;
     let target = settings.target;
     let mut signature = signature::of_window(log, first - 48, pushed);
@@ -40,7 +43,7 @@ fn first_mark(
     cut
 }
 
-fn smaller(a: usize, b: usize) -> usize
+pub fn smaller(a: usize, b: usize) -> usize
     ensures { λ r. ⌜ r ≡ min a b ⌝ }
 {
     if a < b { a } else { b }
@@ -61,8 +64,5 @@ pub fn next_cut(
 {
     let first = cut + settings.minimum as usize;
     let last = smaller(cut + settings.maximum as usize, log.len());
-    if last < first {
-        return last;
-    }
     first_mark(settings, log, first, last, leaving, pushed)
 }

@@ -1,4 +1,5 @@
 pub mod Bytes
 pub mod Cases
+pub mod Copies
 pub mod Tables
 pub mod Writing

@@ -1,5 +1,5 @@
 // What the program cutlist does: it prints the cuts of standard input under the house settings, a line a cut with its offset and
-// the length of its piece, and a last line with the count of cuts and of bytes. What is a cut is decided by the crate carry alone.
+// the length of its piece, and a last line with the count of cuts and of bytes. What is a cut is decided by the crate pass alone.
 ghost use Prim.Native.Nat.{_+_, _≤_};
 ghost use lib.ListN.{length};
 use carry::Carry;
@@ -93,7 +93,7 @@ fn read_once(log: Log, buffer: &mut [u8]) -> Turn {
     let n = io::count(got, buffer);
     let mut list = [0u64; 33];
     let carry = log.carry;
-    let outcome = carry::block(carry, &buffer[..n], &mut list);
+    let outcome = pass::block(carry, &buffer[..n], &mut list);
     let answer = outcome.answer;
     let Answer::Wrote(count) = answer else {
         complain();
@@ -118,7 +118,7 @@ fn read_once(log: Log, buffer: &mut [u8]) -> Turn {
 fn finish(log: Log) {
     let mut list = [0u64; 33];
     let carry = log.carry;
-    let outcome = carry::close(carry, &mut list);
+    let outcome = pass::close(carry, &mut list);
     let answer = outcome.answer;
     let Answer::Wrote(count) = answer else {
         complain();
@@ -159,7 +159,7 @@ fn read_all(start: Log) {
 
 // Cuts standard input to its end.
 pub fn list_input() {
-    let outcome = carry::fresh(terms::HOUSE);
+    let outcome = pass::fresh(terms::HOUSE);
     let carry = outcome.carry;
     read_all(Log {
         carry: carry,

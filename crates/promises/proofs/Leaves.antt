@@ -22,7 +22,9 @@ use Rattle.cutting.specs.WholeLog.{cutLogAnswer, cutLogList, writtenAnswer, wri
 use Rattle.carry.specs.declared.Carry.{Carry}
 use Rattle.carry.specs.declared.Outcome.{Outcome}
 use Rattle.carry.specs.Carries.{inOrder, cutsIn}
-use Rattle.carry.specs.Calls.{refused, noCarry, carryRows, freshOf, blockOf, blockList, takenOf, closeOf, closeList, closingCut}
+use Rattle.carry.specs.Outcomes.{refused, carryRows}
+use Rattle.taking.specs.Taking.{takenOf}
+use Rattle.pass.specs.Calls.{noCarry, freshOf, blockOf, blockList, closeOf, closeList, closingCut}
 use Rattle.promises.proofs.Rows.{passNumber}
 use Rattle.amending.specs.Parts.{amendedList}
 use Rattle.amending.specs.Answers.{amendmentNumber, newCutsOf, editFits, partsAnswer, amendAnswer, amendList}

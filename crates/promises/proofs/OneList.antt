@@ -23,8 +23,8 @@ use Rattle.signature.specs.Polynomials.{clmul, rem}
 use Rattle.signature.specs.Signatures.{number, window, signature, signatureOf, degree, lowPart}
 use Rattle.signature.proofs.Remainders.{rem-exactly}
 use Rattle.cutting.specs.Marks.{mark, matches, cutList}
-use Rattle.carry.specs.SinglePass.{Lent, joined, Roomy, writtenBy}
-use Rattle.carry.proofs.SinglePass as carry
+use Rattle.pass.specs.SinglePass.{Lent, joined, Roomy, writtenBy}
+use Rattle.pass.proofs.SinglePass as pass
 use Rattle.board.specs.Segments.{segments}
 use Rattle.board.specs.Bays.{bayOf, Holds}
 use Rattle.board.specs.declared.Verdict.the-variants.{Granted}
@@ -103,7 +103,7 @@ whole-log s log list k e =
 -- fresh, the blocks in turn and close write, joined, the cuts of the joined log, for any blocks
 pub single-pass : (s : Settings) (calls : List Lent) (last : List ℕ) → inRange s ≡ true → length (joined calls) ≤ longest
     → Roomy (s .minimum) calls → 1 ≤ length last → writtenBy s calls last ≡ cutList s (joined calls)
-single-pass = carry.single-pass
+single-pass = pass.single-pass
 
 -- for any segment size, where each bay holds its segment's record, the walk over the bays is the log's list
 pub merged : (s : Settings) (log : List ℕ) (size width : ℕ) (board : List ℕ) → inRange s ≡ true → 0 < size

@@ -18,7 +18,8 @@ use Rattle.lists.specs.WellFormed.{wellFormed, lengthOf}
 use Rattle.carry.specs.declared.Carry.{Carry}
 use Rattle.carry.specs.declared.Outcome.{Outcome}
 use Rattle.carry.specs.Carries.{inOrder, cutsIn}
-use Rattle.carry.specs.Calls.{freshOf, blockOf, takenOf, closeOf}
+use Rattle.taking.specs.Taking.{takenOf}
+use Rattle.pass.specs.Calls.{freshOf, blockOf, closeOf}
 use Rattle.amending.specs.Parts.{amendedList}
 use Rattle.amending.specs.Answers.{amendmentNumber, newCutsOf, editFits, partsAnswer, amendAnswer}
 use Rattle.sheet.specs.Trailer.{mostCuts, trailerRight}

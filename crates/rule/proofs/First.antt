@@ -1,10 +1,10 @@
 -- The first mark of a range of offsets: what it is, that nothing else is, and that it moves with the marks.
-use Prim.Native.Nat.{ℕ, zero, suc, _+_, _≤_, _<_}
+use Prim.Native.Nat.{ℕ, zero, suc, _+_, _-_, _≤_, _<_}
 use mathlib.Core.Path.{_≡_, refl, sym, ap, _∙_}
 use mathlib.Core.Bool.{Bool, true, false}
 use native.Mathlib.Nat.{add-zero}
 use native.Mathlib.Omega.{arith}
-use Rattle.laws.proofs.Cases.{by-test, by-lt}
+use Rattle.laws.proofs.Cases.{by-test, by-lt, clash}
 use Rattle.rule.specs.Rule.{firstMark, Unmarked}
 
 -- r is the first mark among the k offsets from p on, or other where none of them is a mark
@@ -50,6 +50,43 @@ module _ (mark : ℕ → Bool) (other : ℕ) where
   first-none zero p u = refl
   first-none (suc k) p u =
       miss k p (u p (omega arith) (omega arith)) ∙ first-none k (suc p) (λ q a b. u q (omega arith) (omega arith))
+
+-- a search from first to last, and one that stops or starts in between
+module _ (mark : ℕ → Bool) (first last : ℕ) where
+  -- up to edge: what stops below edge is a mark, and the first up to last too
+  pub first-early : (edge : ℕ) → edge ≤ last → firstMark mark (suc edge - first) first edge < edge
+      → firstMark mark (suc last - first) first last ≡ firstMark mark (suc edge - first) first edge
+  first-early edge within = early (first-is mark edge (suc edge - first) first)
+    where
+      early : {r : ℕ} → First mark (suc edge - first) first edge r → r < edge → firstMark mark (suc last - first) first last ≡ r
+      early (at-mark r lo hi m u) h = first-at mark last (suc last - first) first r lo (omega arith) m u
+      early (none-there u) h = absurd (omega arith)
+
+  -- what does not has passed no mark below edge
+  pub none-early : (edge : ℕ) → edge ≤ firstMark mark (suc edge - first) first edge → Unmarked mark first edge
+  none-early edge = passed (first-is mark edge (suc edge - first) first)
+    where
+      passed : {r : ℕ} → First mark (suc edge - first) first edge r → edge ≤ r → Unmarked mark first edge
+      passed (at-mark r lo hi m u) h q a b = u q a (omega arith)
+      passed (none-there u) h q a b = u q a (omega arith)
+
+  -- from a later offset on: unmarked offsets below last may be left out
+  pub first-later : (from : ℕ) → first ≤ from → ((q : ℕ) → first ≤ q → q < from → q < last → mark q ≡ false)
+      → firstMark mark (suc last - first) first last ≡ firstMark mark (suc last - from) from last
+  first-later from h passed = later (first-is mark last (suc last - from) from)
+    where
+      stops : {r : ℕ} → First mark (suc last - first) first last r → Unmarked mark from (from + (suc last - from)) → r ≡ last
+      stops (at-mark r lo hi m u) none =
+          by-lt r last
+          (λ k. absurd (clash (sym m ∙ by-lt r from (λ j. passed r lo j k) (λ j. none r j (omega arith)))))
+          (λ k. omega arith)
+      stops (none-there u) none = refl
+
+      later : {r : ℕ} → First mark (suc last - from) from last r → firstMark mark (suc last - first) first last ≡ r
+      later (at-mark r lo hi m u) =
+          first-at mark last (suc last - first) first r (omega arith) (omega arith) m
+          (λ q a b. by-lt q from (λ k. passed q a k (omega arith)) (λ k. u q k b))
+      later (none-there u) = stops (first-is mark last (suc last - first) first) u
 
 -- where two ranges are marked alike, their first marks lie alike: x + b ≡ y + a says that y is as far past b as x is past a
 module _ (mark mark′ : ℕ → Bool) (a b other other′ : ℕ) (others : other + b ≡ other′ + a) where

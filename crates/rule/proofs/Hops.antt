@@ -6,7 +6,7 @@ use mathlib.Core.List.{List, [], _∷_, _++_}
 use native.Mathlib.Nat.{le-trans}
 use native.Mathlib.Omega.{arith}
 use borrow.Author.Tests.{le-leb, lt-leb, lt-ltb, le-ltb}
-use Rattle.laws.proofs.Cases.{by-lt}
+use Rattle.laws.proofs.Cases.{by-lt, clash}
 use Rattle.rule.specs.Rule.{next, chain, hop, hops, lastOr, cutsFrom, closing, Unmarked, first-mark, forced, log-ends}
 use Rattle.rule.proofs.First.{First, at-mark, none-there, first-is, first-at}
 use Rattle.rule.proofs.Chain.{Run, stay, onward, opened, parted, at-end}
@@ -16,6 +16,12 @@ use Rattle.rule.proofs.Next.{next-only, rising}
 pub data UpTo (hop : ℕ → ℕ) (e : ℕ) : ℕ → List ℕ → ℕ → Type 0 where
   past : {c : ℕ} → e < hop c → UpTo hop e c [] c
   leap : {c : ℕ} {l : List ℕ} {m : ℕ} → hop c ≤ e → UpTo hop e (hop c) l m → UpTo hop e c (hop c ∷ l) m
+
+-- a hop that ends at p, and the hops from there
+pub hop-to : {hop : ℕ → ℕ} {e c p m : ℕ} {l : List ℕ} → hop c ≡ p → p ≤ e → UpTo hop e p l m → UpTo hop e c (p ∷ l) m
+hop-to {hop} {e} {c} {p} {m} {l} here inside rest =
+    subst (λ x. UpTo hop e c (x ∷ l) m) here
+    (leap (subst (λ x. x ≤ e) (sym here) inside) (subst (λ x. UpTo hop e x l m) (sym here) rest))
 
 -- two stretches, one after the other
 pub up-to-joined : {hop : ℕ → ℕ} {d e c m o : ℕ} {l k : List ℕ} → d ≤ e → UpTo hop d c l m → UpTo hop e m k o → UpTo hop e c (l ++ k) o
@@ -80,9 +86,6 @@ still-open n m h = rw (lt-ltb m n h, closing)
 pub already : (n m : ℕ) → n ≤ m → closing n m ≡ []
 unfolding closing
 already n m h = rw (le-ltb m n h, closing)
-
-clash : true ≡ false → ⊥
-clash e = let z : _≡_ {A = ℕ} 0 1 = cc in omega arith
 
 module _ (mark : ℕ → Bool) (lo hi : ℕ) where
   hop-is : (c : ℕ) → First mark (suc hi - lo) (c + lo) (c + hi) (hop mark lo hi c)

@@ -1,7 +1,7 @@
 // The single pass: a fresh carry, a block, and closing.
 ghost use mathlib.Core.Path.{_≡_};
 ghost use lib.ListN.{length};
-ghost use Rattle.carry.specs.Calls.{freshOf, blockOf, blockList, closeOf, closeList};
+ghost use Rattle.pass.specs.Calls.{freshOf, blockOf, blockList, closeOf, closeList};
 ghost use Rattle.thrunglow.specs.Pass.{passedOf};
 use super::answers::numbered;
 use carry::Carry;
@@ -33,7 +33,7 @@ fn handed(outcome: Outcome) -> Passed
 pub extern "C" fn thrunglow_fresh(settings: Settings) -> Passed
     ensures { λ r. ⌜ r ≡ passedOf (freshOf settings) ⌝ }
 {
-    handed(carry::fresh(settings))
+    handed(pass::fresh(settings))
 }
 
 #[no_mangle]
@@ -41,7 +41,7 @@ pub extern "C" fn thrunglow_block(carry: Carry, block: &[u8], list: &mut [u64]) 
     ensures { λ r. ⌜ r ≡ passedOf (blockOf carry (now (block .entry)) (length (now (list .entry)))) ⌝ }
     ensures { λ _. ⌜ now (list .exit) ≡ blockList carry (now (block .entry)) (now (list .entry)) ⌝ }
 {
-    handed(carry::block(carry, block, list))
+    handed(pass::block(carry, block, list))
 }
 
 #[no_mangle]
@@ -49,5 +49,5 @@ pub extern "C" fn thrunglow_close(carry: Carry, list: &mut [u64]) -> Passed
     ensures { λ r. ⌜ r ≡ passedOf (closeOf carry (length (now (list .entry)))) ⌝ }
     ensures { λ _. ⌜ now (list .exit) ≡ closeList carry (now (list .entry)) ⌝ }
 {
-    handed(carry::close(carry, list))
+    handed(pass::close(carry, list))
 }

@@ -1,11 +1,10 @@
 -- `cutting::search::first_mark` meets its contract: the loop's invariant is `Searching`, and each way out is one law about it.
 use native.Mathlib.Omega.{arith}
 use Prim.Native.Nat.{_-_}
-use Rattle.cutting.proofs.Searching.{Searching, start, turn, found, ended}
+use Rattle.cutting.proofs.Searching.{Searching, start, turn, found, ended, too-near}
+use Rattle.cutting.proofs.Masked.{mask-there}
 use Rattle.terms.proofs.Ranges.{ranges}
 use Rattle.signature.proofs.Windows.{signature-lt}
-use lib.Pow.{pow-pos, shl-exact}
-use lib.Dec.{lit<}
 use Rattle.cutting.proofs.search.first_mark.Statement.{statement}
 use Rattle.cutting.proofs.search.first_mark.Tie as tie
 
@@ -16,47 +15,50 @@ Inv-loop log first last leaving pushed mask target signature₀ at₀ signature 
 abbrev μ-loop : tie.MeasureT-loop
 μ-loop log first last leaving pushed mask target signature₀ at₀ signature at = last - at
 
+returns : tie.Need-returns Inv-loop μ-loop
+returns c = too-near _ _ _ (c .if1 .taken)
+
 shl-mask : tie.Need-shl-mask Inv-loop μ-loop
-shl-mask c = omega (arith, ranges _ (c .before .before .pre .0) .few-bits)
+shl-mask c = omega (arith, ranges _ (c .before .before .before .pre .0) .few-bits)
 
 sub-mask : tie.Need-sub-mask Inv-loop μ-loop
-sub-mask c = omega (arith, pow-pos (c .before .before .args .settings .bits), shl-exact {a = 1} 1 (c .before .before .args .settings .bits) 32 (lit< tt) (omega (arith, ranges _ (c .before .before .pre .0) .few-bits)))
+sub-mask c = mask-there _ (ranges _ (c .before .before .before .pre .0) .few-bits)
 
 sub-of-window : tie.Need-sub-of-window Inv-loop μ-loop
-sub-of-window c = omega (arith, c .before .before .pre)
+sub-of-window c = omega (arith, c .before .before .before .pre)
 
 of-window-requires : tie.Need-of-window-requires Inv-loop μ-loop
-of-window-requires c κs = (omega (arith, c .before .before .pre), c .before .before .pre .1 .1 .1)
+of-window-requires c κs = (omega (arith, c .before .before .before .pre), c .before .before .before .pre .1 .1 .1)
 
 loop-holds : tie.Need-loop-holds Inv-loop μ-loop
-loop-holds c = start _ _ _ _ _ _ (c .before .before .before .pre .1 .0 .1) (c .of-window .ensures)
+loop-holds c = start _ _ _ _ _ _ (c .before .before .if1 .left) (c .of-window .ensures)
 
 sub-roll : tie.Need-sub-roll Inv-loop μ-loop
-sub-roll c = omega (arith, c .before .before .loop .inv .begun, c .before .before .before .before .before .before .pre)
+sub-roll c = omega (arith, c .before .before .loop .inv .begun, c .before .before .before .before .before .before .before .pre)
 
 shared-slice-read-roll : tie.Need-shared-slice-read-roll Inv-loop μ-loop
-shared-slice-read-roll c = omega (arith, c .before .before .before .loop .inv .begun, c .before .before .before .loop .inv .ahead, c .before .if2 .left, c .before .before .before .before .before .before .before .pre)
+shared-slice-read-roll c = omega (arith, c .before .before .before .loop .inv .begun, c .before .before .before .loop .inv .ahead, c .before .if3 .left, c .before .before .before .before .before .before .before .before .pre)
 
 shared-slice-read-roll-2 : tie.Need-shared-slice-read-roll-2 Inv-loop μ-loop
-shared-slice-read-roll-2 c = omega (arith, c .before .before .before .before .loop .inv .ahead, c .before .before .if2 .left, c .before .before .before .before .before .before .before .before .pre)
+shared-slice-read-roll-2 c = omega (arith, c .before .before .before .before .loop .inv .ahead, c .before .before .if3 .left, c .before .before .before .before .before .before .before .before .before .pre)
 
 roll-requires : tie.Need-roll-requires Inv-loop μ-loop
-roll-requires c κs = (signature-lt _ (c .before .before .before .before .loop .inv .here), c .before .before .before .before .before .before .before .before .pre .1 .1 .0, c .before .before .before .before .before .before .before .before .pre .1 .1 .1)
+roll-requires c κs = (signature-lt _ (c .before .before .before .before .loop .inv .here), c .before .before .before .before .before .before .before .before .before .pre .1 .1 .0, c .before .before .before .before .before .before .before .before .before .pre .1 .1 .1)
 
 add-at : tie.Need-add-at Inv-loop μ-loop
-add-at c = omega (arith, c .before .before .before .before .before .loop .inv .ahead, c .before .before .before .if2 .left, c .before .before .before .before .before .before .before .before .before .pre, c .before .before .before .before .before .before .before .before .before .good)
+add-at c = omega (arith, c .before .before .before .before .before .loop .inv .ahead, c .before .before .before .if3 .left, c .before .before .before .before .before .before .before .before .before .before .pre, c .before .before .before .before .before .before .before .before .before .before .good)
 
 loop-less : tie.Need-loop-less Inv-loop μ-loop
-loop-less c = omega (arith, c .before .before .before .before .before .loop .inv .ahead, c .before .before .before .if2 .left)
+loop-less c = omega (arith, c .before .before .before .before .before .loop .inv .ahead, c .before .before .before .if3 .left)
 
 loop-again : tie.Need-loop-again Inv-loop μ-loop
-loop-again c = turn _ (λ j. c .before .shared-slice-known3 .given j .fits) _ (c .before .before .before .before .before .before .before .before .before .pre .1 .0 .0) (c .before .before .before .before .before .before .before .before .before .pre .1 .0 .2) (c .before .before .before .before .before .loop .inv) (c .before .before .before .before .if1 .left) (c .before .before .before .if2 .left) (c .roll .ensures)
-
-returns : tie.Need-returns Inv-loop μ-loop
-returns c = found _ _ (c .before .before .before .before .before .pre .1 .0 .0) (c .before .before .before .before .before .pre .1 .0 .2) (ranges _ (c .before .before .before .before .before .pre .0) .few-bits) (c .before .loop .inv) (c .if1 .taken)
+loop-again c = turn _ (λ j. c .before .shared-slice-known3 .given j .fits) _ (c .before .before .before .before .before .before .before .before .before .before .pre .1 .0 .0) (c .before .before .before .before .before .before .before .before .before .before .pre .1 .0 .1) (c .before .before .before .before .before .loop .inv) (c .before .before .before .before .if2 .left) (c .before .before .before .if3 .left) (c .roll .ensures)
 
 returns-2 : tie.Need-returns-2 Inv-loop μ-loop
-returns-2 c = ended _ _ (c .before .before .before .before .before .before .pre .1 .0 .0) (c .before .before .before .before .before .before .pre .1 .0 .2) (ranges _ (c .before .before .before .before .before .before .pre .0) .few-bits) (c .before .before .loop .inv) (c .before .if1 .left) (c .if2 .taken)
+returns-2 c = found _ _ (c .before .before .before .before .before .before .pre .1 .0 .0) (c .before .before .before .before .before .before .pre .1 .0 .1) (ranges _ (c .before .before .before .before .before .before .pre .0) .few-bits) (c .before .loop .inv) (c .if2 .taken)
+
+returns-3 : tie.Need-returns-3 Inv-loop μ-loop
+returns-3 c = ended _ _ (c .before .before .before .before .before .before .before .pre .1 .0 .0) (c .before .before .before .before .before .before .before .pre .1 .0 .1) (ranges _ (c .before .before .before .before .before .before .before .pre .0) .few-bits) (c .before .before .loop .inv) (c .before .if2 .left) (c .if3 .taken)
 
 pub first-mark-spec : {M : Type 1} → statement M
 first-mark-spec =
@@ -64,6 +66,7 @@ first-mark-spec =
     (tie.spec
     Inv-loop
     μ-loop
+    returns
     shl-mask
     sub-mask
     sub-of-window
@@ -76,5 +79,5 @@ first-mark-spec =
     add-at
     loop-less
     loop-again
-    returns
-    returns-2)
+    returns-2
+    returns-3)

@@ -1,7 +1,7 @@
 -- `cutting::search::next_cut` meets its contract: the last offset looked at is the smaller of cut + maximum and the log's end.
 use native.Mathlib.Omega.{arith}
 use Rattle.terms.proofs.Ranges.{ranges}
-use Rattle.cutting.proofs.Searching.{searched, too-near}
+use Rattle.cutting.proofs.Searching.{searched}
 use Rattle.cutting.proofs.search.next_cut.Statement.{statement}
 use Rattle.cutting.proofs.search.next_cut.Tie as tie
 
@@ -14,16 +14,11 @@ add-smaller c = omega (arith, ranges _ (c .before .pre .0) .bounded, c .before .
 smaller-requires : tie.Need-smaller-requires
 smaller-requires c κs = tt
 
-returns : tie.Need-returns
-returns c = too-near _ _ _ _ (c .before .smaller .ensures) (c .if1 .taken)
-
 first-mark-requires : tie.Need-first-mark-requires
-first-mark-requires c κs = (c .before .before .before .pre .0, ((omega (arith, ranges _ (c .before .before .before .pre .0) .window-fits), c .if1 .left, omega (arith, c .before .smaller .ensures)), c .before .before .before .pre .1 .1))
+first-mark-requires c κs = (c .before .before .pre .0, ((omega (arith, ranges _ (c .before .before .pre .0) .window-fits), omega (arith, c .smaller .ensures)), c .before .before .pre .1 .1))
 
-returns-2 : tie.Need-returns-2
-returns-2 c = searched _ _ _ _ (c .before .before .smaller .ensures) _ (c .first-mark .ensures)
+returns : tie.Need-returns
+returns c = searched _ _ _ _ _ (c .before .smaller .ensures) (c .first-mark .ensures)
 
 pub next-cut-spec : {M : Type 1} → statement M
-next-cut-spec =
-    tie.close
-    (tie.spec add-first add-smaller smaller-requires returns first-mark-requires returns-2)
+next-cut-spec = tie.close (tie.spec add-first add-smaller smaller-requires first-mark-requires returns)

@@ -1,0 +1,4 @@
+pub mod Blocks
+pub mod Closing
+pub mod Prefix
+pub mod SinglePass
