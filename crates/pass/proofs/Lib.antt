@@ -1,4 +1,5 @@
 pub mod Blocks
 pub mod Closing
 pub mod Prefix
+pub mod Ordered
 pub mod SinglePass

@@ -1,32 +1,32 @@
 -- "This is the carry of that prefix": what a fresh carry starts, and a block keeps.
-use Prim.Native.Nat.{ℕ, zero, suc, _+_, _-_, _≤_, _<_}
+use Prim.Native.Nat.{ℕ, suc, _+_, _-_, _≤_, _<_}
 use mathlib.Core.Path.{_≡_, refl, sym, ap, _∙_, subst}
-use mathlib.Core.Bool.{true, false}
+use mathlib.Core.Bool.{false}
 use mathlib.Core.List.{List, [], _++_, append-assoc}
 use native.Mathlib.Nat.{zero-add}
 use native.Mathlib.Omega.{arith}
-use lib.ListN.{length, take, drop, replicate, length-append, length-replicate, replicate-append-replicate}
-use lib.Seq.{drop-append-le, drop-append-add, take-append-le, drop-drop, drop-at, take-at}
-use borrow.Author.Tests.{le-leb, lt-ltb, eq-eqb}
-use Rattle.laws.proofs.Cases.{by-lt}
+use lib.ListN.{length, take, drop, replicate, length-append}
+use lib.Seq.{drop-append-le, drop-append-add, drop-drop}
 use Rattle.terms.specs.declared.Settings.{Settings}
-use Rattle.terms.specs.Answers.{longest}
 use Rattle.terms.proofs.Ranges.{Ranges}
 use Rattle.rule.specs.Rule.{hop}
-use Rattle.rule.proofs.Hops.{UpTo, past, up-to-joined, stands, hop-rises, hop-long}
+use Rattle.rule.proofs.Hops.{UpTo, past, up-to-joined, stands, hop-rises}
 use Rattle.signature.specs.Polynomials.{foldDigits, rem}
-use Rattle.signature.specs.Signatures.{number, signature, signatureOf, window}
+use Rattle.signature.specs.Signatures.{number, signature, signatureOf}
 use Rattle.cutting.specs.Marks.{mark, matches}
 use Rattle.cutting.proofs.Marked.{mark-within}
 use Rattle.carry.specs.declared.Carry.{Carry}
-use Rattle.carry.specs.Carries.{allZero, inOrder, freshCarry, blockTaken, cutsIn}
+use Rattle.carry.specs.Carries.{freshCarry, blockTaken, cutsIn}
 use Rattle.carry.proofs.Sees.{Sees, sees-first}
-use Rattle.carry.proofs.Bytes.{Hopped, block-hops}
+use Rattle.carry.proofs.Bytes.{Stands, Hopped, block-hops}
 use Rattle.carry.proofs.Parts.{length-slid-by, Parts, parts}
 
 -- the log with the zeros that a window shows before its start
-abbrev padded : List ℕ → List ℕ
+abbrev pub padded : List ℕ → List ℕ
 padded log = replicate 48 0 ++ log
+
+abbrev pub onward : Settings → List ℕ → ℕ → ℕ
+onward s log = hop (mark s log) (s .minimum) (s .maximum)
 
 -- c is the carry of the log as far as rest, and these are the cuts written so far
 pub record CarryOf (s : Settings) (log rest written : List ℕ) (c : Carry) : Type 0 where
@@ -38,7 +38,10 @@ pub record CarryOf (s : Settings) (log rest written : List ℕ) (c : Carry) : Ty
   pub signed : c .signature ≡ signatureOf (c .window)
   pub last : ℕ
   pub tied : last + c .since ≡ c .taken
-  pub cuts : UpTo (hop (mark s log) (s .minimum) (s .maximum)) (c .taken) 0 written last
+  pub cuts : UpTo (onward s log) (c .taken) 0 written last
+
+rises : (s : Settings) (log : List ℕ) → Ranges s → (m : ℕ) → m < onward s log m
+rises s log ok = hop-rises (mark s log) (s .minimum) (s .maximum) (omega (arith, ok .window-fits)) (ok .ordered)
 
 pub fresh-prefix : (s : Settings) (log : List ℕ) → Ranges s → CarryOf s log log [] (freshCarry s)
 unfolding freshCarry
@@ -52,7 +55,7 @@ fresh-prefix s log ok =
       signed = unfold signatureOf signature rem number foldDigits in refl;
       last = 0;
       tied = refl;
-      cuts = past (hop-rises (mark s log) (s .minimum) (s .maximum) (omega (arith, ok .window-fits)) (ok .ordered) 0);
+      cuts = past (rises s log ok 0);
     }
 
 -- the 48 bytes before an offset past 48 are the log's own
@@ -60,25 +63,6 @@ padded-drop : (log : List ℕ) (p : ℕ) → 48 ≤ p → drop p (padded log) �
 padded-drop log p h =
     let e : p ≡ 48 + (p - 48) = omega arith in
     ap (λ n. drop n (padded log)) e ∙ drop-append-add (replicate 48 0) log (p - 48)
-
-zeros-zero : (n : ℕ) → allZero (replicate n 0) ≡ true
-unfolding allZero
-zeros-zero zero = refl
-zeros-zero (suc n) = zeros-zero n
-
-zeros-parted : (t j k : ℕ) → t + j ≡ k → (log : List ℕ) → drop t (replicate k 0 ++ log) ≡ replicate j 0 ++ log
-zeros-parted t j k e log =
-    ap (λ l. drop t (l ++ log)) (sym (replicate-append-replicate t j 0 ∙ ap (λ n. replicate n 0) e))
-    ∙ ap (drop t) (append-assoc (replicate t 0) (replicate j 0) log)
-    ∙ drop-at (replicate t 0) (replicate j 0 ++ log) t (length-replicate t 0)
-
--- before 48 bytes have come, the window begins with zeros
-zeros-left : (log : List ℕ) (t : ℕ) → t < 48 → allZero (take (48 - t) (drop t (padded log))) ≡ true
-zeros-left log t h =
-    ap allZero
-    (ap (take (48 - t)) (zeros-parted t (48 - t) 48 (omega arith) log)
-    ∙ take-at (replicate (48 - t) 0) log (48 - t) (length-replicate (48 - t) 0))
-    ∙ zeros-zero (48 - t)
 
 module _ (s : Settings) (log rest written : List ℕ) (c : Carry) (ok : Ranges s) (is : CarryOf s log rest written c) where
   -- what comes next is seen by the log's marks
@@ -95,38 +79,15 @@ module _ (s : Settings) (log rest written : List ℕ) (c : Carry) (ok : Ranges s
             ∙ ap (λ t. matches t (signatureOf (take 48 (drop (suc i) (c .window ++ rest))))) (sym (is .same));
       }
 
-  rises : (m : ℕ) → m < hop (mark s log) (s .minimum) (s .maximum) m
-  rises = hop-rises (mark s log) (s .minimum) (s .maximum) (omega (arith, ok .window-fits)) (ok .ordered)
-
-  ahead-of : c .taken < hop (mark s log) (s .minimum) (s .maximum) (is .last)
-  ahead-of = stands (hop (mark s log) (s .minimum) (s .maximum)) (c .taken) rises (is .cuts) .ahead
-
-  zeros-first : allZero (take (48 - c .taken) (c .window)) ≡ true
-  zeros-first =
-      by-lt (c .taken) 48
-      (λ h. ap allZero (sym (take-append-le (48 - c .taken) (c .window) rest (omega (arith, is .whole))) ∙ ap (take (48 - c .taken)) (is .ahead)) ∙ zeros-left log (c .taken) h)
-      (λ h. let none-left : 48 - c .taken ≡ 0 = omega arith in rw none-left (unfold allZero in refl))
-
-  -- such a carry is in order
-  pub in-order : length log ≤ longest → inOrder c ≡ true
-  unfolding inOrder
-  in-order fits =
-      let below : c .since < c .settings .maximum = rw (is .same) (omega (arith, ahead-of, is .tied, hop-long (mark s log) (s .minimum) (s .maximum) (is .last) (ok .ordered))) in
-      rw (
-        le-leb (c .since) (c .taken) (omega (arith, is .tied)),
-        lt-ltb (c .since) (c .settings .maximum) below,
-        eq-eqb (c .signature) (signatureOf (c .window)) (is .signed),
-        zeros-first,
-        le-leb (c .taken) longest (omega (arith, is .here)),
-      )
+  pub stands-there : Stands (mark s log) c (is .last)
+  stands-there = record { tied = is .tied; ahead = rw (is .same) (stands (onward s log) (c .taken) (rises s log ok) (is .cuts) .ahead) }
 
 -- a block keeps it: the cuts that it makes are those of the log up to its end
 module _ (s : Settings) (log block after written : List ℕ) (c : Carry) (ok : Ranges s) (is : CarryOf s log (block ++ after) written c) where
   hopped : Hopped (mark s log) c block (is .last)
   hopped =
       block-hops (mark s log) block c (is .last)
-      (sees-first (mark s log) c block after (sees-rest s log (block ++ after) written c ok is))
-      (record { tied = is .tied; ahead = rw (is .same) (ahead-of s log (block ++ after) written c ok is) })
+      (sees-first (mark s log) c block after (sees-rest s log (block ++ after) written c ok is)) (stands-there s log (block ++ after) written c ok is)
 
   left : Parts c block (blockTaken c block)
   left = parts block c (is .whole) (is .signed)
@@ -140,7 +101,7 @@ module _ (s : Settings) (log block after written : List ℕ) (c : Carry) (ok : R
       ∙ drop-drop (length block) (c .taken) (padded log)
       ∙ ap (λ n. drop n (padded log)) (sym (left .taken-grown))
 
-  cuts-here : UpTo (hop (mark s log) (s .minimum) (s .maximum)) (c .taken + length block) (is .last) (cutsIn c block) (hopped .last)
+  cuts-here : UpTo (onward s log) (c .taken + length block) (is .last) (cutsIn c block) (hopped .last)
   cuts-here = subst (λ t. UpTo (hop (mark s log) (t .minimum) (t .maximum)) (c .taken + length block) (is .last) (cutsIn c block) (hopped .last)) (is .same) (hopped .cuts)
 
   pub block-prefix : CarryOf s log after (written ++ cutsIn c block) (blockTaken c block)

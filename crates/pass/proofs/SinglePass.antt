@@ -11,7 +11,7 @@ use Rattle.terms.specs.declared.Settings.{Settings}
 use Rattle.terms.specs.Settings.{inRange}
 use Rattle.terms.proofs.Ranges.{ranges}
 use Rattle.terms.specs.Answers.{answerCount, longest, roomFor}
-use Rattle.rule.specs.Rule.{hop, closing}
+use Rattle.rule.specs.Rule.{closing}
 use Rattle.rule.proofs.Hops.{UpTo, cuts-by-hops, still-open, already}
 use Rattle.cutting.specs.Marks.{mark, cutList}
 use Rattle.cutting.specs.WholeLog.{writtenList}
@@ -27,7 +27,8 @@ use Rattle.pass.specs.Calls.{freshOf, blockOf, blockList, closingCut, cl
 use Rattle.pass.specs.SinglePass.{Lent, joined, Roomy, none, more, writtenFrom, writtenBy}
 use Rattle.pass.proofs.Blocks.{block-fine, never-full}
 use Rattle.pass.proofs.Closing.{closing-open, closing-shut, closing-few, answered, left}
-use Rattle.pass.proofs.Prefix.{CarryOf, fresh-prefix, in-order, block-prefix}
+use Rattle.pass.proofs.Prefix.{onward, CarryOf, fresh-prefix, block-prefix}
+use Rattle.pass.proofs.Ordered.{in-order}
 
 module _ (s : Settings) (log : List ℕ) (fine : inRange s ≡ true) (fits : length log ≤ longest) where
   -- a carry of a prefix is refused by none of the rows that judge a carry
@@ -74,7 +75,7 @@ module _ (s : Settings) (log : List ℕ) (fine : inRange s ≡ true) (fits : len
     all-cuts =
         ap (λ l. written ++ l) closing-is
         ∙ sym (cuts-by-hops (mark s log) (s .minimum) (s .maximum) (omega (arith, ranges s fine .window-fits)) (ranges s fine .ordered) (length log)
-        (subst (λ n. UpTo (hop (mark s log) (s .minimum) (s .maximum)) n 0 written (is .last)) whole (is .cuts)))
+        (subst (λ n. UpTo (onward s log) n 0 written (is .last)) whole (is .cuts)))
 
   pass : (calls : List Lent) (written : List ℕ) (c : Carry) → CarryOf s log (joined calls) written c → Roomy (s .minimum) calls
       → (last : List ℕ) → 1 ≤ length last → written ++ writtenFrom c calls last ≡ cutList s log

@@ -1,6 +1,6 @@
 -- A lent list filled with a block's cuts: what is known after each, and what that says where it stops.
 use Prim.Native.Nat.{ℕ, _+_, _-_, _≤_, _<_, min}
-use mathlib.Core.Path.{_≡_, refl, sym, ap, ap₂, _∙_, subst}
+use mathlib.Core.Path.{_≡_, sym, ap, ap₂, _∙_, subst}
 use mathlib.Core.Bool.{true, false, _&&_, _||_}
 use mathlib.Core.List.{List, [], _∷_, _++_, append-assoc, append-nil}
 use native.Mathlib.Omega.{arith}
@@ -8,9 +8,7 @@ use lib.Dec.{leb, eqb}
 use lib.ListN.{length, set, length-append}
 use lib.Seq.{take-all}
 use borrow.Author.Tests.{le-leb, lt-leb, lt-ltb, le-ltb}
-use Rattle.laws.specs.Over.{over}
 use Rattle.laws.proofs.Cases.{by-lt, clash}
-use Rattle.laws.proofs.Writing.{over-none, over-more, length-over}
 use Rattle.terms.specs.declared.Settings.{Settings}
 use Rattle.rule.specs.Rule.{lastOr}
 use Rattle.rule.proofs.Next.{next-step}
@@ -18,7 +16,7 @@ use Rattle.rule.proofs.Hops.{UpTo, past, hop-to, last-is, listed, up-to, hop-ri
 use Rattle.signature.specs.Signatures.{signatureOf}
 use Rattle.cutting.specs.Marks.{mark, matches, nextCut}
 use Rattle.cutting.specs.WholeLog.{writtenList}
-use Rattle.cutting.proofs.Written.{written-whole, written-full}
+use Rattle.cutting.proofs.Written.{Holds, holds-none, holds-more, holds-full, holds-all}
 use Rattle.carry.specs.declared.Carry.{Carry}
 use Rattle.carry.specs.Carries.{slidBy, blockTaken, cutsIn}
 use Rattle.carry.proofs.Usable.{Usable}
@@ -33,9 +31,7 @@ pub record Filling (c : Carry) (block list₀ list : List ℕ) (count cut piece 
   pub cuts : List ℕ
   pub last : ℕ
   pub leads : (k : List ℕ) (o : ℕ) → UpTo (onward c block) (c .taken + length block) last k o → UpTo (onward c block) (c .taken + length block) (lastCut c) (cuts ++ k) o
-  pub counted : count ≡ length cuts
-  pub room : count ≤ length list₀
-  pub kept : list ≡ over cuts list₀
+  pub holds : Holds list₀ list cuts count
   pub tied : last + piece ≡ c .taken + cut
   pub ahead : toEnd c block last ≡ c .taken + cut
   pub inside : cut ≤ length block
@@ -66,9 +62,7 @@ module _ (c : Carry) (block : List ℕ) (ok : Usable c) (some : 0 < length block
         cuts = [];
         last = lastCut c;
         leads = λ k o r. r;
-        counted = refl;
-        room = omega arith;
-        kept = sym (over-none list);
+        holds = holds-none list;
         tied = omega (arith, ok .begun);
         ahead = here;
         inside = omega (arith, here, within);
@@ -94,9 +88,6 @@ module _ (c : Carry) (block : List ℕ) (ok : Usable c) (some : 0 < length block
       (alike, sym (last-is (hopped .cuts)) ∙ ap (lastOr (lastCut c)) alike ∙ last-is r)
 
   module _ {list₀ list : List ℕ} {count cut piece : ℕ} (f : Filling c block list₀ list count cut piece) where
-    pub same-long : length list ≡ length list₀
-    same-long = ap length (f .kept) ∙ length-over (f .cuts) list₀ (omega (arith, f .counted, f .room))
-
     shortened : min (onward c block (f .last)) (c .taken + length block) ≡ c .taken + cut
     shortened = sym (next-hop (seenBy c block) (c .settings .minimum) (c .settings .maximum) (c .taken + length block) (f .last)) ∙ f .ahead
 
@@ -132,9 +123,7 @@ module _ (c : Carry) (block : List ℕ) (ok : Usable c) (some : 0 < length block
             leads = λ k o more.
                 subst (λ l. UpTo (onward c block) (c .taken + length block) (lastCut c) l o) (sym (append-assoc (f .cuts) ((c .taken + cut) ∷ []) k))
                 (f .leads ((c .taken + cut) ∷ k) o (hop-to (is-cut t) (omega (arith, f .inside)) more));
-            counted = simp length-append (omega (arith, f .counted));
-            room = omega arith;
-            kept = ap₂ (λ l i. set l i (c .taken + cut)) (f .kept) (f .counted) ∙ over-more (f .cuts) list₀ (c .taken + cut) (omega (arith, f .counted));
+            holds = holds-more (f .holds) room (c .taken + cut);
             tied = omega arith;
             ahead = next-inside c block ok cut ∙ ap (λ x. c .taken + x) (sym e);
             inside = on .1;
@@ -155,9 +144,9 @@ module _ (c : Carry) (block : List ℕ) (ok : Usable c) (some : 0 < length block
       full t e =
           let more = up-to (onward c block) (c .taken + length block) rises (c .taken + cut) in
           let all = same-cuts (f .leads _ _ (hop-to (is-cut t) (omega (arith, f .inside)) more)) .0 in
-          let long : length list₀ < length (cutsIn c block) = rw (all, length-append) (omega (arith, f .counted)) in (
+          let long : length list₀ < length (cutsIn c block) = rw (all, length-append) (omega (arith, f .holds .counted)) in (
             rw (lt-leb _ _ long),
-            f .kept ∙ sym (rw all (written-full (f .cuts) _ list₀ (sym (f .counted) ∙ e))),
+            rw all (holds-full (f .holds) _ e),
           )
 
       -- all cuts are written
@@ -168,8 +157,8 @@ module _ (c : Carry) (block : List ℕ) (ok : Usable c) (some : 0 < length block
           let at-end = no-cut t in
           let found = same-cuts (f .leads [] (f .last) (past {c = f .last} (at-end .1))) in
           let all : cutsIn c block ≡ f .cuts = found .0 ∙ append-nil (f .cuts) in
-          let short : length (cutsIn c block) ≤ length list₀ = rw all (omega (arith, f .counted, f .room)) in
+          let short : length (cutsIn c block) ≤ length list₀ = rw all (omega (arith, f .holds .counted, f .holds .room)) in
           let since : piece ≡ blockTaken c block .since = omega (arith, found .1, hopped .tied, f .tied) in (
-            rw (le-leb _ _ short) (ap₂ Reached (f .counted ∙ ap length (sym all)) since),
-            f .kept ∙ sym (ap (λ l. writtenList l list₀) all ∙ written-whole (f .cuts) list₀ (omega (arith, f .counted, f .room))),
+            rw (le-leb _ _ short) (ap₂ Reached (f .holds .counted ∙ ap length (sym all)) since),
+            rw all (holds-all (f .holds)),
           )

@@ -7,7 +7,8 @@ use Rattle.cutting.proofs.Marked.{log-rising}
 use Rattle.rule.specs.Rule.{cutsFrom}
 use Rattle.cutting.specs.Marks.{nextCut}
 use denote.Ref.{now}
-use Rattle.cutting.proofs.Filling.{Filled, start, same-long, turn, full, done}
+use Rattle.cutting.proofs.Filling.{Filled, start, turn, full, done}
+use Rattle.cutting.proofs.Written.{holds-long}
 use Rattle.cutting.proofs.whole.write_cuts.Statement.{statement}
 use Rattle.cutting.proofs.whole.write_cuts.Tie as tie
 
@@ -28,32 +29,32 @@ loop-holds : tie.Need-loop-holds Inv-loop μ-loop
 loop-holds c = start _ _ _
 
 same-length : tie.Need-same-length Inv-loop μ-loop
-same-length c = same-long (c .before .before .loop .inv)
+same-length c = holds-long (c .before .before .loop .inv .holds)
 
 returns : tie.Need-returns Inv-loop μ-loop
 unfolding cutsFrom
-returns c = full (log-rising _ _ (c .before .before .before .before .before .before .before .pre)) (c .before .before .loop .inv) (c .before .loop-test .taken) (c .if1 .taken ∙ same-long (c .before .before .loop .inv))
+returns c = full (log-rising _ _ (c .before .before .before .before .before .before .before .pre)) (c .before .before .loop .inv) (c .before .loop-test .taken) (c .if1 .taken ∙ holds-long (c .before .before .loop .inv .holds))
 
 next-cut-requires : tie.Need-next-cut-requires Inv-loop μ-loop
 next-cut-requires c κs = (c .before .before .before .before .before .before .before .before .before .pre, (c .before .before .before .loop-test .taken, (c .before .before .before .before .before .before .leaving .ensures, c .before .before .before .before .before .pushed .ensures)))
 
 mul-list : tie.Need-mul-list Inv-loop μ-loop
-mul-list c = omega (arith, (c .before .before .before .before .before .loop .inv) .fits, c .before .before .before .before .before .before .before .before .before .before .good .1 .1 .0)
+mul-list c = omega (arith, c .before .before .before .before .before .loop .inv .holds .room, c .before .before .before .before .before .before .before .before .before .before .good .1 .1 .0)
 
 slice-write-list : tie.Need-slice-write-list Inv-loop μ-loop
-slice-write-list c = omega (arith, c .before .before .before .if1 .left, (c .before .before .before .before .before .loop .inv) .fits, same-long (c .before .before .before .before .before .loop .inv))
+slice-write-list c = omega (arith, c .before .before .before .if1 .left, c .before .before .before .before .before .loop .inv .holds .room, holds-long (c .before .before .before .before .before .loop .inv .holds))
 
 add-count : tie.Need-add-count Inv-loop μ-loop
-add-count c = omega (arith, (c .before .before .before .before .before .loop .inv) .fits, c .before .before .before .before .before .before .before .before .before .before .good .1 .1 .0)
+add-count c = omega (arith, c .before .before .before .before .before .loop .inv .holds .room, c .before .before .before .before .before .before .before .before .before .before .good .1 .1 .0)
 
 loop-less : tie.Need-loop-less Inv-loop μ-loop
 loop-less c = omega (arith, log-rising (c .before .before .before .before .before .before .before .before .before .before .args .settings) (now (c .before .before .before .before .before .before .before .before .before .before .args .log)) (c .before .before .before .before .before .before .before .before .before .before .pre) .rises (c .before .before .before .before .before .loop .cut) (c .before .before .before .before .loop-test .taken), c .next-cut .ensures, c .before .before .before .before .loop-test .taken)
 
 loop-again : tie.Need-loop-again Inv-loop μ-loop
-loop-again c = turn (c .before .before .before .before .before .loop .inv) (c .before .before .before .before .loop-test .taken) (omega (arith, c .before .before .before .if1 .left, (c .before .before .before .before .before .loop .inv) .fits, same-long (c .before .before .before .before .before .loop .inv))) _ (c .next-cut .ensures)
+loop-again c = turn (c .before .before .before .before .before .loop .inv) (c .before .before .before .before .loop-test .taken) (omega (arith, c .before .before .before .if1 .left, c .before .before .before .before .before .loop .inv .holds .room, holds-long (c .before .before .before .before .before .loop .inv .holds))) _ (c .next-cut .ensures)
 
 same-length-2 : tie.Need-same-length-2 Inv-loop μ-loop
-same-length-2 c = same-long (c .before .loop .inv)
+same-length-2 c = holds-long (c .before .loop .inv .holds)
 
 returns-2 : tie.Need-returns-2 Inv-loop μ-loop
 unfolding cutsFrom

@@ -6,9 +6,10 @@ use mathlib.Core.Path.{_≡_, sym, _∙_}
 use mathlib.Core.Bool.{true}
 use native.Mathlib.Omega.{arith}
 use lib.ListN.{length}
+use Rattle.cutting.proofs.Written.{holds-long}
 use Rattle.carry.proofs.Usable.{Usable, usable}
 use Rattle.taking.specs.Taking.{isCut}
-use Rattle.taking.proofs.Fills.{Filling, start, moves, turn, falls, same-long, full, done}
+use Rattle.taking.proofs.Fills.{Filling, start, moves, turn, falls, full, done}
 use Rattle.taking.proofs.filling.fill.Statement.{statement}
 use Rattle.taking.proofs.filling.fill.Tie as tie
 
@@ -53,7 +54,7 @@ is-cut-requires c κs = from c .pre .0 .0
 same-length : tie.Need-same-length Inv-loop μ-loop
 same-length c =
     let here = c .before .before .before in
-    same-long _ _ (sound (from here)) (from here .pre .1 .0 .0) (here .loop .inv)
+    holds-long (here .loop .inv .holds)
 
 returns : tie.Need-returns Inv-loop μ-loop
 returns c =
@@ -72,8 +73,8 @@ room-there : (c : tie.Else2 Inv-loop μ-loop)
     (here .loop .count < length (now (from here .args .list))) × (length (here .loop .list) ≡ length (now (from here .args .list)))
 room-there c =
     let here = c .before .before .before in
-    let same : length (here .loop .list) ≡ length (now (from here .args .list)) = same-long _ _ (sound (from here)) (from here .pre .1 .0 .0) (here .loop .inv) in
-    (omega (arith, here .loop .inv .room, c .if2 .left), same)
+    let same : length (here .loop .list) ≡ length (now (from here .args .list)) = holds-long (here .loop .inv .holds) in
+    (omega (arith, here .loop .inv .holds .room, c .if2 .left), same)
 
 mul-list : tie.Need-mul-list Inv-loop μ-loop
 mul-list c = scaled-fits _ _ 8 (room-there (c .before) .0) (from (c .before .before .before .before) .good .1 .1 .1 .1 .0 .1)
@@ -109,7 +110,7 @@ loop-again c =
 same-length-2 : tie.Need-same-length-2 Inv-loop μ-loop
 same-length-2 c =
     let here = c .before .before in
-    same-long _ _ (sound (from here)) (from here .pre .1 .0 .0) (here .loop .inv)
+    holds-long (here .loop .inv .holds)
 
 returns-2 : tie.Need-returns-2 Inv-loop μ-loop
 returns-2 c =
