@@ -1,6 +1,6 @@
 -- Where the first piece that ends in a block ends: a mark is sought first at the block's edge, then inside the block.
 use Prim.Native.Nat.{ℕ, suc, _+_, _-_, _≤_, _<_, min, max}
-use mathlib.Core.Path.{_≡_, sym, ap, ap₂, _∙_}
+use mathlib.Core.Path.{_≡_, sym, ap₂, _∙_}
 use mathlib.Core.List.{List, _++_}
 use native.Mathlib.Omega.{arith}
 use lib.ListN.{length, take}
@@ -9,7 +9,7 @@ use Rattle.terms.specs.declared.Settings.{Settings}
 use Rattle.rule.specs.Rule.{firstMark}
 use Rattle.rule.proofs.First.{first-early, none-early, first-later}
 use Rattle.cutting.specs.Marks.{mark}
-use Rattle.taking.specs.Taking.{firstCut}
+use Rattle.taking.specs.Taking.{Heads, firstCut}
 use Rattle.taking.proofs.Seen.{shown, at-edge, inside}
 
 -- where the search inside the block starts, and what lies before that and before last
@@ -22,10 +22,10 @@ at-first first last edge q e a b below = omega arith
 -- first, last and edge are the search's bounds; the head is the window and the block's first bytes, and the search in it gave r
 module _ (s : Settings) (since : ℕ) (head block : List ℕ) (first last edge r : ℕ) (starts : first ≡ max (s .minimum - since) 1)
     (stops : last ≡ min (s .maximum - since) (length block)) (is-edge : edge ≡ min 48 last)
-    (whole : 48 ≤ length head) (joined : head ≡ take 48 head ++ take 48 block)
+    (room : length head ≡ 96) (heads : Heads head (take 48 head) block)
     (told : r ≡ firstMark (mark s head) (suc (48 + edge) - (48 + first)) (48 + first) (48 + edge)) where
   window-long : length (take 48 head) ≡ 48
-  window-long = length-take-le 48 head whole
+  window-long = length-take-le 48 head (omega arith)
 
   cut-is : firstCut s since (take 48 head ++ block) (length block) ≡ firstMark (shown s (take 48 head ++ block)) (suc last - first) first last
   unfolding firstCut
@@ -33,8 +33,7 @@ module _ (s : Settings) (since : ℕ) (head block : List ℕ) (first last edge r
 
   edge-found : r ≡ 48 + firstMark (shown s (take 48 head ++ block)) (suc edge - first) first edge
   edge-found =
-      told ∙ ap (λ l. firstMark (mark s l) (suc (48 + edge) - (48 + first)) (48 + first) (48 + edge)) joined
-      ∙ at-edge s (take 48 head) block window-long first edge (omega arith) (omega arith)
+      told ∙ at-edge s (take 48 head) block window-long head (omega arith) heads first edge (omega arith) (omega arith)
 
   pub edge-far : 48 ≤ r
   edge-far = omega (arith, edge-found)

@@ -1,9 +1,10 @@
 -- What taking a block that no row refuses comes to, and its inner functions.
 use Prim.Native.Nat.{ℕ, suc, _+_, _-_, min, max}
 use mathlib.Core.Bool.{Bool, _&&_, _||_}
-use mathlib.Core.List.{List}
+use mathlib.Core.Path.{_≡_}
+use mathlib.Core.List.{List, _++_}
 use lib.Dec.{leb, ltb, eqb}
-use lib.ListN.{length}
+use lib.ListN.{length, take}
 use Rattle.terms.specs.declared.Settings.{Settings}
 use Rattle.terms.specs.declared.Refusal.the-variants.{ListFull}
 use Rattle.terms.specs.Answers.{unless}
@@ -20,6 +21,10 @@ use Rattle.taking.specs.declared.filling.Filled.the-variants.{Full, Reac
 unfoldable pub takenOf : Carry → List ℕ → ℕ → Outcome
 takenOf c block room =
     unless (leb (length (cutsIn c block)) room) (refused c ListFull) (wrote (blockTaken c block) (length (cutsIn c block)))
+
+-- a head begins with the window and, after it, the block's first 48 bytes, as many as there are
+abbrev pub Heads : List ℕ → List ℕ → List ℕ → Type 0
+Heads head window block = take (48 + min 48 (length block)) head ≡ window ++ take 48 block
 
 -- the first offset of a block, counted from its start, where the piece that began `since` bytes before it can end;
 -- the block's end where it ends in none below. Bytes are the window and the block

@@ -10,7 +10,6 @@ ghost use Rattle.carry.specs.Carries.{inOrder, cutsIn};
 ghost use Rattle.taking.specs.Taking.{advancedBy, takenOf};
 use carry::Carry;
 use carry::Outcome;
-use cutting::search::smaller;
 use filling::Filled;
 use terms::Answer;
 use terms::Refusal;
@@ -46,18 +45,9 @@ pub fn take_block(carry: Carry, block: &[u8], list: &mut [u64]) -> Outcome
     let pushed = signature::tables::pushed();
     let settings = carry.settings;
     let window = carry.window;
-    let edge = smaller(48, block.len());
-    let both = window::joined(window, block, edge);
-    let end = 48 + edge;
-    let first = search::first_cut(
-        settings,
-        carry.since,
-        &both[..end],
-        block,
-        &leaving,
-        &pushed,
-    );
-    let slid = window::slide(&both[..end], block);
+    let both = window::joined(window, block);
+    let first = search::first_cut(settings, carry.since, &both, block, &leaving, &pushed);
+    let slid = window::slide(&both, block);
     let signature = signature::of_window(&slid, 0, &pushed);
     let filled = filling::fill(carry, first, signature, block, list, &leaving, &pushed);
     let Filled::Reached(count, since) = filled else {

@@ -3,11 +3,11 @@
 ghost use mathlib.Core.Path.{_≡_};
 ghost use mathlib.Core.Bool.{true};
 ghost use mathlib.Core.List.{_++_};
-ghost use Prim.Native.Nat.{max, _-_, _≤_, _<_};
+ghost use Prim.Native.Nat.{max, _-_, _<_};
 ghost use lib.ListN.{length, take};
 ghost use Rattle.terms.specs.Settings.{inRange};
 ghost use Rattle.signature.specs.Signatures.{leavingTable, pushedTable};
-ghost use Rattle.taking.specs.Taking.{firstCut};
+ghost use Rattle.taking.specs.Taking.{Heads, firstCut};
 use cutting::search::first_mark;
 use cutting::search::smaller;
 use terms::Settings;
@@ -34,13 +34,13 @@ fn larger(a: usize, b: usize) -> usize
 pub fn first_cut(
     settings: Settings,
     since: u64,
-    head: &[u8],
+    head: &[u8; 96],
     block: &[u8],
     leaving: &[u32; 256],
     pushed: &[u32; 256],
 ) -> usize
     requires { ⌜ (inRange settings ≡ true) × (since < settings .maximum) ⌝ }
-    requires { ⌜ (48 ≤ length (now head)) × (now head ≡ take 48 (now head) ++ take 48 (now block)) ⌝ }
+    requires { ⌜ (length (now head) ≡ 96) × Heads (now head) (take 48 (now head)) (now block) ⌝ }
     requires { ⌜ (now leaving ≡ leavingTable) × (now pushed ≡ pushedTable) ⌝ }
     ensures { λ r. ⌜ r ≡ firstCut settings since (take 48 (now (head .entry)) ++ now (block .entry)) (length (now (block .entry))) ⌝ }
 {

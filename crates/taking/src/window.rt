@@ -1,10 +1,12 @@
 // The last 48 bytes beside those of a block.
 ghost use mathlib.Core.Path.{_≡_};
-ghost use mathlib.Core.List.{_++_};
-ghost use Prim.Native.Nat.{_+_, _-_, _≤_};
-ghost use lib.ListN.{length, take, drop};
+ghost use Prim.Native.Nat.{_+_, _≤_};
+ghost use lib.ListN.{length, take};
 ghost use lib.Seq.{paste};
+ghost use Rattle.signature.specs.Signatures.{window};
 ghost use Rattle.carry.specs.Carries.{slidBy};
+ghost use Rattle.taking.specs.Taking.{Heads};
+use cutting::search::smaller;
 
 // Copies all of src into dst from place at on.
 fn copy_in(dst: &mut [u8], at: usize, src: &[u8])
@@ -18,35 +20,36 @@ fn copy_in(dst: &mut [u8], at: usize, src: &[u8])
     }
 }
 
-// The window and, after it, so many of the block's first bytes.
-pub fn joined(window: [u8; 48], block: &[u8], count: usize) -> [u8; 96]
-    requires { ⌜ (count ≤ 48) × (count ≤ length (now block)) ⌝ }
-    ensures { λ r. ⌜ take (48 + count) r ≡ window ++ take count (now (block .entry)) ⌝ }
+// The window and, after it, the block's first 48 bytes, as many as there are.
+pub fn joined(window: [u8; 48], block: &[u8]) -> [u8; 96]
+    ensures { λ r. ⌜ Heads r window (now (block .entry)) ⌝ }
 {
     let mut both = [0; 96];
+    let count = smaller(48, block.len());
     copy_in(&mut both, 0, &window);
     copy_in(&mut both, 48, &block[..count]);
     both
 }
 
-// The last 48 bytes.
-fn last_bytes(bytes: &[u8]) -> [u8; 48]
-    requires { ⌜ 48 ≤ length (now bytes) ⌝ }
-    ensures { λ r. ⌜ r ≡ drop (length (now (bytes .entry)) - 48) (now (bytes .entry)) ⌝ }
+// The 48 bytes from a place on.
+fn window_at(bytes: &[u8], from: usize) -> [u8; 48]
+    requires { ⌜ from + 48 ≤ length (now bytes) ⌝ }
+    ensures { λ r. ⌜ r ≡ window (now (bytes .entry)) from ⌝ }
 {
-    let mut last = [0; 48];
-    let from = bytes.len() - 48;
-    copy_in(&mut last, 0, &bytes[from..]);
-    last
+    let mut found = [0; 48];
+    let end = from + 48;
+    copy_in(&mut found, 0, &bytes[from..end]);
+    found
 }
 
 // The last 48 bytes once the block is taken. The head is the window and the block's first 48 bytes.
-pub fn slide(head: &[u8], block: &[u8]) -> [u8; 48]
-    requires { ⌜ (48 ≤ length (now head)) × (now head ≡ take 48 (now head) ++ take 48 (now block)) ⌝ }
+pub fn slide(head: &[u8; 96], block: &[u8]) -> [u8; 48]
+    requires { ⌜ (length (now head) ≡ 96) × Heads (now head) (take 48 (now head)) (now block) ⌝ }
     ensures { λ r. ⌜ r ≡ slidBy (take 48 (now (head .entry))) (now (block .entry)) ⌝ }
 {
-    if block.len() < 48 {
-        return last_bytes(head);
+    let count = block.len();
+    if count < 48 {
+        return window_at(head, count);
     }
-    last_bytes(block)
+    window_at(block, count - 48)
 }

@@ -1,11 +1,9 @@
 -- `taking::search::first_cut` meets its contract: each `return` is one law about the search.
 use borrow.Author.Needs.{needs}
 use denote.Ref.{now}
-use Prim.Native.Nat.{suc, _+_, _-_, min}
-use mathlib.Core.Path.{_≡_, ap, ap₂, _∙_}
+use Prim.Native.Nat.{suc, _-_}
+use mathlib.Core.Path.{ap, _∙_}
 use native.Mathlib.Omega.{arith}
-use lib.ListN.{length, take, length-append, length-take}
-use lib.Seq.{length-take-le}
 use Rattle.terms.proofs.Ranges.{ranges}
 use Rattle.rule.specs.Rule.{firstMark}
 use Rattle.cutting.specs.Marks.{mark}
@@ -13,13 +11,9 @@ use Rattle.taking.proofs.FirstCut.{edge-far, ends-early, ends-late}
 use Rattle.taking.proofs.search.first_cut.Statement.{statement}
 use Rattle.taking.proofs.search.first_cut.Tie as tie
 
--- the head reaches 48 bytes past the window, or to the block's end
-head-long : (c : tie.Start) → length (now (c .args .head)) ≡ 48 + min 48 (length (now (c .args .block)))
-head-long c =
-    let head = now (c .args .head) in
-    let block = now (c .args .block) in
-    ap length (c .pre .1 .0 .1) ∙ length-append (take 48 head) (take 48 block)
-    ∙ ap₂ _+_ (length-take-le 48 head (c .pre .1 .0 .0)) (length-take 48 block)
+-- where the bounds are known: the function's entry
+abbrev start : tie.After-smaller2 → tie.Start
+start c = c .before .before .before .before .before
 
 still-to-come-requires : tie.Need-still-to-come-requires
 still-to-come-requires c κs = search needs
@@ -33,31 +27,28 @@ smaller-requires c κs = search needs
 smaller-requires-2 : tie.Need-smaller-requires-2
 smaller-requires-2 c κs = search needs
 
--- where the bounds are known: the function's entry
-abbrev start : tie.After-smaller2 → tie.Start
-start c = c .before .before .before .before .before .before
-
 add-first-mark : tie.Need-add-first-mark
-add-first-mark c = omega (arith, c .before .before .before .still-to-come .ensures, ranges _ (start c .pre .0 .0) .ordered, ranges _ (start c .pre .0 .0) .bounded)
+add-first-mark c =
+    let k = c .before in
+    omega (arith, k .before .before .before .still-to-come .ensures, ranges _ (start k .pre .0 .0) .ordered, ranges _ (start k .pre .0 .0) .bounded)
 
 add-first-mark-2 : tie.Need-add-first-mark-2
-add-first-mark-2 c = omega (arith, c .smaller2 .ensures)
+add-first-mark-2 c = search needs
 
 first-mark-requires : tie.Need-first-mark-requires
-first-mark-requires c κs = (
-  start c .pre .0 .0,
-  ((omega arith, omega (arith, head-long (start c), c .smaller2 .ensures, c .before .smaller .ensures)), start c .pre .1 .1),
-)
+first-mark-requires c κs =
+    let k = c .before in
+    (start k .pre .0 .0, ((omega arith, omega (arith, start k .pre .1 .0 .0, k .smaller2 .ensures)), start k .pre .1 .1))
 
 sub-at : tie.Need-sub-at
 sub-at c =
-    let k = c .before in
+    let k = c .before .before in
     edge-far (start k .args .settings) (start k .args .since) (now (start k .args .head)) (now (start k .args .block)) _ _ _ _ (k .before .before .before .still-to-come .ensures) (k .before .smaller .ensures) (k .smaller2 .ensures)
     (start k .pre .1 .0 .0) (start k .pre .1 .0 .1) (c .first-mark .ensures)
 
 returns : tie.Need-returns
 returns c =
-    let k = c .before .before in
+    let k = c .before .before .before in
     ends-early (start k .args .settings) (start k .args .since) (now (start k .args .head)) (now (start k .args .block)) _ _ _ _ (k .before .before .before .still-to-come .ensures) (k .before .smaller .ensures) (k .smaller2 .ensures)
     (start k .pre .1 .0 .0) (start k .pre .1 .0 .1) (c .before .first-mark .ensures) (c .if1 .taken)
 
@@ -66,12 +57,12 @@ larger-requires c κs = search needs
 
 first-mark-requires-2 : tie.Need-first-mark-requires-2
 first-mark-requires-2 c κs =
-    let k = c .before .before .before in
+    let k = c .before .before .before .before in
     (start k .pre .0 .0, ((omega (arith, c .larger .ensures), omega (arith, k .before .smaller .ensures)), start k .pre .1 .1))
 
 returns-2 : tie.Need-returns-2
 returns-2 c =
-    let k = c .before .before .before .before in
+    let k = c .before .before .before .before .before in
     ends-late (start k .args .settings) (start k .args .since) (now (start k .args .head)) (now (start k .args .block)) _ _ _ _ (k .before .before .before .still-to-come .ensures) (k .before .smaller .ensures) (k .smaller2 .ensures)
     (start k .pre .1 .0 .0) (start k .pre .1 .0 .1) (c .before .before .before .first-mark .ensures) (c .before .before .if1 .left)
     (c .first-mark2 .ensures ∙ ap (λ n. firstMark (mark (start k .args .settings) (now (start k .args .block))) (suc (k .before .smaller .result) - n) n (k .before .smaller .result)) (c .before .larger .ensures))
