@@ -14,9 +14,9 @@ use filling::Filled;
 use terms::Answer;
 use terms::Refusal;
 
-pub mod filling;
-pub mod search;
-pub mod window;
+mod filling;
+mod search;
+mod window;
 
 // The carry so many bytes further.
 fn advanced(carry: Carry, bytes: u64, since: u64, window: [u8; 48], signature: u32) -> Carry
