@@ -1,3 +1,4 @@
 pub mod Marked
+pub mod Masked
 pub mod Searching
 pub mod Filling
