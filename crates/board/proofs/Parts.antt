@@ -1,24 +1,22 @@
 -- A segment's stretch of the log has the log's own marks there, so that what is recorded from it is the segment's record.
 use Prim.Native.Nat.{ℕ, zero, suc, _+_, _-_, _*_, _^_, _≤_, _<_, min}
-use mathlib.Core.Path.{_≡_, refl, sym, ap, ap₂, _∙_, subst}
-use mathlib.Core.Bool.{Bool, true, false, _&&_}
-use mathlib.Core.List.{List, [], _∷_}
+use mathlib.Core.Path.{_≡_, refl, sym, ap, _∙_, subst}
+use mathlib.Core.List.{List}
 use native.Mathlib.Nat.{mul-le-mul-right, one-mul}
 use native.Mathlib.Omega.{arith}
 use lib.ListN.{length, getD, take, drop, length-take, length-drop}
 use lib.Seq.{ext-getD, getD-take, getD-drop}
-use borrow.Author.Tests.{lt-leb}
 use Rattle.laws.proofs.Cases.{by-lt}
 use Rattle.terms.specs.declared.Settings.{Settings}
 use Rattle.terms.proofs.Ranges.{Ranges}
 use Rattle.rule.specs.Rule.{cutsUpTo}
 use Rattle.signature.specs.Signatures.{window}
 use Rattle.cutting.specs.Marks.{mark}
-use Rattle.cutting.proofs.Marked.{marks-agree}
+use Rattle.cutting.proofs.Marked.{mark-low, marks-agree}
 use Rattle.board.specs.declared.walk.Made.{Made}
 use Rattle.board.specs.declared.recording.Recorded.{Recorded}
 use Rattle.board.specs.Walk.{Puts}
-use Rattle.board.specs.Segments.{segments, segmentStart, segmentEnd, There}
+use Rattle.board.specs.Segments.{segmentStart, segmentEnd, There}
 use Rattle.board.specs.Records.{Record, segmentRecord, slowRecord, marksIn}
 use Rattle.board.specs.Recording.{segmentOf}
 use Rattle.board.specs.Stretches.{markFrom, slowIn, Records}
@@ -37,10 +35,6 @@ window-part log base j n h fits =
     ∙ sym (getD-take 48 (drop (base + j) log) p 0 (omega arith)
     ∙ getD-drop (base + j) log p 0
     ∙ ap (λ (x : ℕ). getD log x 0) (omega arith)))
-
-mark-low : (s : Settings) (log : List ℕ) (q : ℕ) → q < 48 → mark s log q ≡ false
-unfolding mark
-mark-low s log q h = rw (lt-leb 48 q h)
 
 module _ (s : Settings) (log : List ℕ) (base last : ℕ) (begins : base ≤ last) (fits : last ≤ length log) where
   pub stretch-long : length (take (last - base) (drop base log)) ≡ last - base

@@ -1,24 +1,19 @@
 -- Marks and hops found in a stretch, as the code finds them.
-use Prim.Native.Nat.{ℕ, zero, suc, _+_, _-_, _*_, _%_, _^_, _≤_, _<_, min}
-use mathlib.Core.Path.{_≡_, refl, sym, ap, _∙_, subst}
-use mathlib.Core.Bool.{Bool, true, false}
+use Prim.Native.Nat.{ℕ, suc, _+_, _-_, _*_, _%_, _^_, _≤_, _<_, min}
+use mathlib.Core.Path.{_≡_, sym, ap, _∙_}
+use mathlib.Core.Bool.{true, false}
 use mathlib.Core.List.{List, [], _∷_}
 use native.Mathlib.Nat.{add-zero}
 use native.Mathlib.Omega.{arith}
-use lib.Bits.{bitAnd, and-mask}
-use lib.ListN.{length, getD, set}
-use borrow.Author.Tests.{eq-eqb, ne-eqb}
+use lib.Bits.{bitAnd}
+use lib.ListN.{length, set}
 use Rattle.laws.proofs.Cases.{by-lt}
 use Rattle.terms.specs.declared.Settings.{Settings}
-use Rattle.rule.specs.Rule.{hop, hops, cutsUpTo, Unmarked}
+use Rattle.rule.specs.Rule.{hop, hops, cutsUpTo}
 use Rattle.rule.proofs.First.{first-moves}
-use Rattle.rule.proofs.Hops.{UpTo, past, leap, up-to, listed, next-hop, hop-long, hop-rises, hop-here, hop-on}
-use Rattle.signature.specs.Signatures.{degree, lowPart, rolled, signatureOf, window}
-use Rattle.signature.proofs.Windows.{Bytes, roll-slides}
-use Rattle.cutting.specs.Marks.{matches, mark, nextCut}
-use Rattle.cutting.proofs.Marked.{mark-within}
-use Rattle.cutting.proofs.Masked.{mask-is}
-use Rattle.cutting.proofs.Searching.{Searching}
+use Rattle.rule.proofs.Hops.{past, leap, up-to, listed, next-hop, hop-long, hop-rises, hop-here, hop-on}
+use Rattle.cutting.specs.Marks.{mark, nextCut}
+use Rattle.cutting.proofs.Searching.{Searching, marked, unmarked, none-passed}
 use Rattle.board.specs.declared.recording.Sought.{Sought}
 use Rattle.board.specs.declared.walk.Made.{Made}
 use Rattle.board.specs.Walk.{Puts}
@@ -27,27 +22,14 @@ use Rattle.board.specs.Stretches.{markFrom, Seek, Hops}
 
 -- a search from offset first on, for the mask of the settings' low bits
 module _ (s : Settings) (stretch : List ℕ) {first : ℕ} (low : 48 ≤ first) (few : s .bits ≤ 31) where
-  masked : (signature : ℕ) → bitAnd signature (1 * 2 ^ s .bits % 2 ^ 32 - 1) ≡ signature % 2 ^ s .bits
-  masked signature = ap (bitAnd signature) (mask-is (s .bits) few) ∙ and-mask signature (s .bits)
-
-  no-match : (at : ℕ) → first ≤ at → at ≤ length stretch → (bitAnd (signatureOf (window stretch (at - 48))) (1 * 2 ^ s .bits % 2 ^ 32 - 1) ≡ s .target → ⊥)
-      → mark s stretch at ≡ false
-  unfolding matches
-  no-match at a b ne = mark-within s stretch at (omega arith) b ∙ ne-eqb _ _ (λ e. ne (masked _ ∙ e))
-
   module _ {at here : ℕ} (w : Searching stretch first (length stretch) (1 * 2 ^ s .bits % 2 ^ 32 - 1) (s .target) here at) where
-    none-passed : Unmarked (mark s stretch) first at
-    none-passed q a b = no-match q a (omega (arith, w .ahead)) (w .passed q a b)
-
     pub sought : bitAnd here (1 * 2 ^ s .bits % 2 ^ 32 - 1) ≡ s .target → Seek s stretch first (record { at = at; signature = here; found = true })
-    unfolding matches
     sought e =
         record {
           begun = w .begun;
           inside = w .ahead;
-          clear = none-passed;
-          told = mark-within s stretch at (omega (arith, w .begun)) (w .ahead)
-              ∙ eq-eqb _ _ (ap (λ x. x % 2 ^ s .bits) (sym (w .here)) ∙ sym (masked here) ∙ e);
+          clear = none-passed s stretch low (omega arith) few w;
+          told = marked s stretch low (omega arith) few at here (w .begun) (w .ahead) (w .here) e;
           here = w .here;
           ended = λ z. absurd (let y : _≡_ {A = ℕ} 0 1 = cc in omega arith);
         }
@@ -58,8 +40,8 @@ module _ (s : Settings) (stretch : List ℕ) {first : ℕ} (low : 48 ≤ first) 
         record {
           begun = w .begun;
           inside = w .ahead;
-          clear = none-passed;
-          told = no-match at (w .begun) (w .ahead) (λ e. ne (ap (λ x. bitAnd x (1 * 2 ^ s .bits % 2 ^ 32 - 1)) (w .here) ∙ e));
+          clear = none-passed s stretch low (omega arith) few w;
+          told = unmarked s stretch low (omega arith) few at here (w .begun) (w .ahead) (w .here) ne;
           here = w .here;
           ended = λ z. over;
         }
@@ -183,13 +165,3 @@ module _ (s : Settings) (stretch : List ℕ) (base : ℕ) (positive : 1 ≤ s .m
   pub cuts-done : length stretch < next
       → Puts (cutsUpTo (markFrom s stretch base) (s .minimum) (s .maximum) (base + length stretch) (before .cut)) before (record { count = count; cut = cut }) list₀ list
   cuts-done h = ended (rest-is _ (cuts-none s stretch base positive order cut next (w .from) (w .ahead) h) (w .way))
-
--- the signature one byte on
-pub rolled-on : (stretch : List ℕ) → Bytes stretch → (at : ℕ) → 48 ≤ at → at < length stretch → (here r : ℕ) → here ≡ signatureOf (window stretch (at - 48))
-    → r ≡ rolled degree lowPart 48 here (getD stretch (at - 48) 0) (getD stretch at 0) → r ≡ signatureOf (window stretch (at + 1 - 48))
-rolled-on stretch bytes at low inside here r is-here e =
-    let spot : at ≡ at - 48 + 48 = omega arith in
-    let onward : at - 48 + 1 ≡ at + 1 - 48 = omega arith in
-    roll-slides stretch bytes (at - 48) (omega arith) here r is-here
-    (e ∙ ap (λ i. rolled degree lowPart 48 here (getD stretch (at - 48) 0) (getD stretch i 0)) spot)
-    ∙ ap (λ q. signatureOf (window stretch q)) onward

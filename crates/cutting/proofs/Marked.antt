@@ -1,11 +1,11 @@
 -- Marks agree where the 48 bytes before them agree.
-use Prim.Native.Nat.{ℕ, _-_, _≤_}
+use Prim.Native.Nat.{ℕ, _-_, _≤_, _<_}
 use mathlib.Core.Path.{_≡_, sym, ap, _∙_}
 use mathlib.Core.List.{List}
 use lib.ListN.{length}
-use mathlib.Core.Bool.{true}
+use mathlib.Core.Bool.{true, false}
 use native.Mathlib.Omega.{arith}
-use borrow.Author.Tests.{le-leb}
+use borrow.Author.Tests.{le-leb, lt-leb}
 use Rattle.terms.specs.declared.Settings.{Settings}
 use Rattle.terms.specs.Settings.{inRange}
 use Rattle.terms.proofs.Ranges.{ranges}
@@ -19,6 +19,11 @@ pub mark-within : (s : Settings) (log : List ℕ) (p : ℕ) → 48 ≤ p → p �
     → mark s log p ≡ matches s (signatureOf (window log (p - 48)))
 unfolding mark
 mark-within s log p h k = rw (le-leb 48 p h, le-leb p (length log) k)
+
+-- before a whole window there is no mark
+pub mark-low : (s : Settings) (log : List ℕ) (p : ℕ) → p < 48 → mark s log p ≡ false
+unfolding mark
+mark-low s log p h = rw (lt-leb 48 p h)
 
 pub marks-agree : (s : Settings) (log log′ : List ℕ) (p p′ : ℕ) → 48 ≤ p → p ≤ length log → 48 ≤ p′ → p′ ≤ length log′
     → window log (p - 48) ≡ window log′ (p′ - 48) → mark s log p ≡ mark s log′ p′

@@ -1,6 +1,6 @@
 -- Case splits as terms: of two numbers, and of a test with its outcome in hand.
 use mathlib.Core.Path.{_≡_, refl, sym, _∙_}
-use mathlib.Core.Bool.{Bool, true, false, not, _&&_}
+use mathlib.Core.Bool.{Bool, true, false, not, _&&_, _||_}
 use Prim.Native.Nat.{ℕ, _≤_, _<_}
 use lib.Dec.{ltb}
 use native.Mathlib.Omega.{arith}
@@ -27,3 +27,12 @@ test-passed {r} told e = sym told ∙ not-false r e
 
 pub test-failed : {r t : Bool} → r ≡ t → not r ≡ true → t ≡ false
 test-failed {r} told e = sym told ∙ not-true r e
+
+-- a test whose second half is known
+pub and-false : (t : Bool) → t && false ≡ false
+and-false true = refl
+and-false false = refl
+
+pub or-true : (t : Bool) → t || true ≡ true
+or-true true = refl
+or-true false = refl

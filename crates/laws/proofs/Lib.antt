@@ -1,5 +1,7 @@
 pub mod Bytes
 pub mod Cases
 pub mod Copies
+pub mod Last
+pub mod Sets
 pub mod Tables
 pub mod Writing

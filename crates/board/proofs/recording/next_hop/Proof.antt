@@ -1,5 +1,4 @@
 -- `board::recording::next_hop` meets its contract, each way by its law.
-use mathlib.Core.Path.{refl}
 use native.Mathlib.Omega.{arith}
 use Rattle.terms.proofs.Ranges.{ranges}
 use Rattle.board.proofs.Stretching.{at-end, stays-in, forced-end, too-near, marked-end, unmarked-end}

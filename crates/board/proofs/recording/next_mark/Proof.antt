@@ -1,9 +1,8 @@
 -- `board::recording::next_mark` meets its contract: the window rolls on by one byte, and the search goes on.
 use borrow.Author.Needs.{needs}
-use mathlib.Core.Path.{ap, _∙_}
 use native.Mathlib.Omega.{arith}
 use Rattle.signature.proofs.Windows.{signature-lt}
-use Rattle.board.proofs.Stretching.{rolled-on}
+use Rattle.cutting.proofs.Searching.{rolled-on}
 use Rattle.board.proofs.recording.next_mark.Statement.{statement}
 use Rattle.board.proofs.recording.next_mark.Tie as tie
 

@@ -1,11 +1,10 @@
 -- `board::recording::seek` meets its contract: the loop's invariant is `Searching`, and each way out is one law about it.
 use native.Mathlib.Omega.{arith}
 use Prim.Native.Nat.{_-_}
-use lib.Dec.{lit<}
 use lib.ListN.{length}
-use lib.Pow.{pow-pos, shl-exact}
 use Rattle.terms.proofs.Ranges.{ranges}
 use Rattle.signature.proofs.Windows.{signature-lt}
+use Rattle.cutting.proofs.Masked.{mask-some}
 use Rattle.cutting.proofs.Searching.{Searching, start, turn}
 use Rattle.board.proofs.Stretching.{sought, not-sought}
 use Rattle.board.proofs.recording.seek.Statement.{statement}
@@ -21,7 +20,7 @@ shl-mask : tie.Need-shl-mask Inv-loop μ-loop
 shl-mask c = omega (arith, ranges _ (c .before .before .pre .0) .few-bits)
 
 sub-mask : tie.Need-sub-mask Inv-loop μ-loop
-sub-mask c = omega (arith, pow-pos (c .before .before .args .settings .bits), shl-exact {a = 1} 1 (c .before .before .args .settings .bits) 32 (lit< tt) (omega (arith, ranges _ (c .before .before .pre .0) .few-bits)))
+sub-mask c = mask-some _ (ranges _ (c .before .before .pre .0) .few-bits)
 
 loop-holds : tie.Need-loop-holds Inv-loop μ-loop
 loop-holds c = start _ _ _ _ _ _ (c .before .before .pre .1 .0 .1) (c .before .before .pre .1 .0 .2)

@@ -2,7 +2,7 @@
 use native.Mathlib.Omega.{arith}
 use Prim.Native.Nat.{_-_}
 use Rattle.cutting.proofs.Searching.{Searching, start, turn, found, ended, too-near}
-use Rattle.cutting.proofs.Masked.{mask-there}
+use Rattle.cutting.proofs.Masked.{mask-some}
 use Rattle.terms.proofs.Ranges.{ranges}
 use Rattle.signature.proofs.Windows.{signature-lt}
 use Rattle.cutting.proofs.search.first_mark.Statement.{statement}
@@ -22,7 +22,7 @@ shl-mask : tie.Need-shl-mask Inv-loop μ-loop
 shl-mask c = omega (arith, ranges _ (c .before .before .before .pre .0) .few-bits)
 
 sub-mask : tie.Need-sub-mask Inv-loop μ-loop
-sub-mask c = mask-there _ (ranges _ (c .before .before .before .pre .0) .few-bits)
+sub-mask c = mask-some _ (ranges _ (c .before .before .before .pre .0) .few-bits)
 
 sub-of-window : tie.Need-sub-of-window Inv-loop μ-loop
 sub-of-window c = omega (arith, c .before .before .before .pre)

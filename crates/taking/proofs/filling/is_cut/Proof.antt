@@ -3,7 +3,7 @@ use borrow.Author.Tests.{lt-ltb, le-ltb, le-leb, lt-leb, eq-eqb, ne-eqb}
 use Prim.Native.Nat.{_≤_}
 use native.Mathlib.Omega.{arith}
 use Rattle.terms.proofs.Ranges.{ranges}
-use Rattle.cutting.proofs.Masked.{mask-there, matched, unmatched}
+use Rattle.cutting.proofs.Masked.{mask-some, matched, unmatched}
 use Rattle.taking.specs.Taking.{isCut}
 use Rattle.taking.proofs.filling.is_cut.Statement.{statement}
 use Rattle.taking.proofs.filling.is_cut.Tie as tie
@@ -23,7 +23,7 @@ shl-mask : tie.Need-shl-mask
 shl-mask c = omega (arith, few (c .before .before .before .before))
 
 sub-mask : tie.Need-sub-mask
-sub-mask c = mask-there _ (few (c .before .before .before .before))
+sub-mask c = mask-some _ (few (c .before .before .before .before))
 
 returns-3 : tie.Need-returns-3
 unfolding isCut
@@ -32,7 +32,7 @@ returns-3 c =
     rw (
       le-ltb _ _ (c .before .before .before .before .before .if1 .left),
       le-leb _ _ (c .before .before .before .if2 .left),
-      matched (start .args .settings) (few start) (start .args .signature) (c .if3 .taken),
+      matched (start .args .settings) (start .args .signature) (few start) (c .if3 .taken),
     )
 
 returns-4 : tie.Need-returns-4
@@ -42,7 +42,7 @@ returns-4 c =
     rw (
       le-ltb _ _ (c .before .before .before .before .before .before .before .if1 .left),
       le-leb _ _ (c .before .before .before .before .before .if2 .left),
-      unmatched (start .args .settings) (few start) (start .args .signature) (c .before .before .if3 .left),
+      unmatched (start .args .settings) (start .args .signature) (few start) (c .before .before .if3 .left),
       eq-eqb _ _ (c .if4 .taken),
     )
 
@@ -53,7 +53,7 @@ returns-5 c =
     rw (
       le-ltb _ _ (c .before .before .before .before .before .before .before .if1 .left),
       le-leb _ _ (c .before .before .before .before .before .if2 .left),
-      unmatched (start .args .settings) (few start) (start .args .signature) (c .before .before .if3 .left),
+      unmatched (start .args .settings) (start .args .signature) (few start) (c .before .before .if3 .left),
       ne-eqb _ _ (c .if4 .left),
     )
 
