@@ -14,7 +14,6 @@ use Rattle.terms.specs.Answers.{answerCount, longest, roomFor}
 use Rattle.rule.specs.Rule.{closing}
 use Rattle.rule.proofs.Hops.{UpTo, cuts-by-hops, still-open, already}
 use Rattle.cutting.specs.Marks.{mark, cutList}
-use Rattle.cutting.specs.WholeLog.{writtenList}
 use Rattle.cutting.proofs.Written.{written-first}
 use Rattle.carry.specs.declared.Carry.{Carry}
 use Rattle.carry.specs.declared.order.Verdict.the-variants.{Fine, Wrong}
@@ -22,7 +21,6 @@ use Rattle.carry.specs.Carries.{freshCarry, blockTaken, cutsIn}
 use Rattle.carry.specs.Outcomes.{wrote, carryRows}
 use Rattle.carry.proofs.Room.{enough-room}
 use Rattle.carry.proofs.Rows.{judged-fine}
-use Rattle.taking.specs.Taking.{takenOf}
 use Rattle.pass.specs.Calls.{freshOf, blockOf, blockList, closingCut, closeOf, closeList}
 use Rattle.pass.specs.SinglePass.{Lent, joined, Roomy, none, more, writtenFrom, writtenBy}
 use Rattle.pass.proofs.Blocks.{block-fine, never-full}
@@ -43,16 +41,18 @@ module _ (s : Settings) (log : List ℕ) (fine : inRange s ≡ true) (fits : len
     positive : 0 < c .settings .minimum
     positive = rw (is .same) (omega (arith, ranges s fine .window-fits))
 
-    done : (takenOf c block (length list) ≡ blockOf c block (length list)) × (writtenList (cutsIn c block) list ≡ blockList c block list)
-    done = block-fine c block list refl (passes (block ++ after) written c is) (omega (arith, is .here, length-append block after)) lent
+    short : c .taken + length block ≤ longest
+    short = omega (arith, is .here, length-append block after)
 
     block-answers : blockOf c block (length list) ≡ wrote (blockTaken c block) (length (cutsIn c block))
-    block-answers = sym (done .0) ∙ never-full c block list positive lent
+    block-answers = sym (block-fine c block list refl (passes (block ++ after) written c is) short lent .0) ∙ never-full c block list positive lent
 
     -- the entries that the call says it wrote are the block's cuts
     block-writes : take (answerCount (blockOf c block (length list) .answer)) (blockList c block list) ≡ cutsIn c block
     unfolding answerCount
-    block-writes = rw (block-answers, sym (done .1)) (written-first (cutsIn c block) list (omega (arith, lent, enough-room block c positive)))
+    block-writes =
+        rw (block-answers, sym (block-fine c block list refl (passes (block ++ after) written c is) short lent .1))
+        (written-first (cutsIn c block) list (omega (arith, lent, enough-room block c positive)))
 
   module _ (written : List ℕ) (c : Carry) (is : CarryOf s log [] written c) (list : List ℕ) (roomy : 1 ≤ length list) where
     whole : c .taken ≡ length log
