@@ -23,6 +23,15 @@ hop-to {hop} {e} {c} {p} {m} {l} here inside rest =
     subst (λ x. UpTo hop e c (x ∷ l) m) here
     (leap (subst (λ x. x ≤ e) (sym here) inside) (subst (λ x. UpTo hop e x l m) (sym here) rest))
 
+-- read back: the first hop where one stays at or below e, and none where it does not
+pub leaps : {hop : ℕ → ℕ} {e c p m : ℕ} {l : List ℕ} → UpTo hop e c l m → hop c ≡ p → p ≤ e → (k : List ℕ) × (l ≡ p ∷ k) × UpTo hop e p k m
+leaps (past b) here inside = absurd (omega arith)
+leaps {hop} {e} {m = m} (leap {l = l} b r) here inside = (l, ap (λ x. x ∷ l) here, subst (λ x. UpTo hop e x l m) here r)
+
+pub no-more : {hop : ℕ → ℕ} {e c m : ℕ} {l : List ℕ} → UpTo hop e c l m → e < hop c → (l ≡ []) × (m ≡ c)
+no-more (past b) ahead = (refl, refl)
+no-more (leap b r) ahead = absurd (omega arith)
+
 -- two stretches, one after the other
 pub up-to-joined : {hop : ℕ → ℕ} {d e c m o : ℕ} {l k : List ℕ} → d ≤ e → UpTo hop d c l m → UpTo hop e m k o → UpTo hop e c (l ++ k) o
 up-to-joined h (past b) s = s

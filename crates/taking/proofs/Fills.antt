@@ -1,6 +1,6 @@
 -- A lent list filled with a block's cuts: what is known after each, and what that says where it stops.
 use Prim.Native.Nat.{ℕ, _+_, _-_, _≤_, _<_, min}
-use mathlib.Core.Path.{_≡_, sym, ap, ap₂, _∙_, subst}
+use mathlib.Core.Path.{_≡_, refl, sym, ap, ap₂, _∙_}
 use mathlib.Core.Bool.{true, false, _&&_, _||_}
 use mathlib.Core.List.{List, [], _∷_, _++_, append-assoc, append-nil}
 use native.Mathlib.Omega.{arith}
@@ -10,9 +10,8 @@ use lib.Seq.{take-all}
 use borrow.Author.Tests.{le-leb, lt-leb, lt-ltb, le-ltb}
 use Rattle.laws.proofs.Cases.{by-lt, clash}
 use Rattle.terms.specs.declared.Settings.{Settings}
-use Rattle.rule.specs.Rule.{lastOr}
 use Rattle.rule.proofs.Next.{next-step}
-use Rattle.rule.proofs.Hops.{UpTo, past, hop-to, last-is, listed, up-to, hop-rises, next-hop}
+use Rattle.rule.proofs.Hops.{UpTo, leaps, no-more, hop-rises, next-hop}
 use Rattle.signature.specs.Signatures.{signatureOf}
 use Rattle.cutting.specs.Marks.{mark, matches, nextCut}
 use Rattle.cutting.specs.WholeLog.{writtenList}
@@ -20,17 +19,22 @@ use Rattle.cutting.proofs.Written.{Holds, holds-none, holds-more, holds-full, h
 use Rattle.carry.specs.declared.Carry.{Carry}
 use Rattle.carry.specs.Carries.{slidBy, blockTaken, cutsIn}
 use Rattle.carry.proofs.Usable.{Usable}
-use Rattle.carry.proofs.Bytes.{Hopped, block-hops, cut-here, none-here}
+use Rattle.carry.proofs.Bytes.{block-hops, cut-here, none-here}
 use Rattle.carry.proofs.Parts.{length-slid-by}
 use Rattle.taking.specs.declared.filling.Filled.the-variants.{Full, Reached}
 use Rattle.taking.specs.Taking.{firstCut, isCut, filledOf}
 use Rattle.taking.proofs.Moves.{lastCut, seenBy, onward, toEnd, seen-signature, sees-block, stands-here, next-first, next-inside}
 
--- the cuts up to last are written over the first entries of list₀; the piece from there reaches, with so many bytes, to the offset cut of the block
+-- the cuts up to last are written over the first entries of list₀, the rest are to come, and final is the last of them all; the piece from last
+-- on reaches, with so many bytes, to the offset cut of the block
 pub record Filling (c : Carry) (block list₀ list : List ℕ) (count cut piece : ℕ) : Type 0 where
   pub cuts : List ℕ
+  pub rest : List ℕ
   pub last : ℕ
-  pub leads : (k : List ℕ) (o : ℕ) → UpTo (onward c block) (c .taken + length block) last k o → UpTo (onward c block) (c .taken + length block) (lastCut c) (cuts ++ k) o
+  pub final : ℕ
+  pub parted : cutsIn c block ≡ cuts ++ rest
+  pub coming : UpTo (onward c block) (c .taken + length block) last rest final
+  pub ends : final + blockTaken c block .since ≡ c .taken + length block
   pub holds : Holds list₀ list cuts count
   pub tied : last + piece ≡ c .taken + cut
   pub ahead : toEnd c block last ≡ c .taken + cut
@@ -57,11 +61,16 @@ module _ (c : Carry) (block : List ℕ) (ok : Usable c) (some : 0 < length block
       → Filling c block list list 0 first (c .since + first)
   start list first e =
       let here : toEnd c block (lastCut c) ≡ c .taken + first = next-first c block ok ∙ ap (λ x. c .taken + x) (sym e) in
+      let hopped = block-hops (seenBy c block) block c (lastCut c) (sees-block c block ok) (stands-here c block ok) in
       let within = next-step (seenBy c block) (c .settings .minimum) (c .settings .maximum) (c .taken + length block) (lastCut c) (ok .ranged .ordered) .inside in
       record {
         cuts = [];
+        rest = cutsIn c block;
         last = lastCut c;
-        leads = λ k o r. r;
+        final = hopped .last;
+        parted = refl;
+        coming = hopped .cuts;
+        ends = hopped .tied;
         holds = holds-none list;
         tied = omega (arith, ok .begun);
         ahead = here;
@@ -78,14 +87,6 @@ module _ (c : Carry) (block : List ℕ) (ok : Usable c) (some : 0 < length block
       by-lt cut (length block)
       (λ k. let up : cut < nextCut (c .settings) block cut = step .onward (omega (arith, ok .ranged .window-fits)) k in (omega arith, omega (arith, step .inside), λ z. omega arith))
       (λ k. by-lt r (length block) (λ j. absurd (omega (arith, step .at-least (omega arith)))) (λ j. (omega arith, omega (arith, step .inside), λ z. absurd (omega arith))))
-
-  hopped : Hopped (seenBy c block) c block (lastCut c)
-  hopped = block-hops (seenBy c block) block c (lastCut c) (sees-block c block ok) (stands-here c block ok)
-
-  same-cuts : {l : List ℕ} {m : ℕ} → UpTo (onward c block) (c .taken + length block) (lastCut c) l m → (cutsIn c block ≡ l) × (hopped .last ≡ m)
-  same-cuts {l} {m} r =
-      let alike : cutsIn c block ≡ l = sym (listed (onward c block) (c .taken + length block) rises (hopped .cuts)) ∙ listed (onward c block) (c .taken + length block) rises r in
-      (alike, sym (last-is (hopped .cuts)) ∙ ap (lastOr (lastCut c)) alike ∙ last-is r)
 
   module _ {list₀ list : List ℕ} {count cut piece : ℕ} (f : Filling c block list₀ list count cut piece) where
     shortened : min (onward c block (f .last)) (c .taken + length block) ≡ c .taken + cut
@@ -116,17 +117,19 @@ module _ (c : Carry) (block : List ℕ) (ok : Usable c) (some : 0 < length block
       pub turn : isCut (c .settings) (length block - cut) piece signature ≡ true → count < length list₀ → (r : ℕ) → r ≡ nextCut (c .settings) block cut
           → Filling c block list₀ (set list count (c .taken + cut)) (count + 1) r (r - cut)
       turn t room r e =
-          let on = moves (f .inside) e in
+          let on = leaps (f .coming) (is-cut t) (omega (arith, f .inside)) in
           record {
             cuts = f .cuts ++ ((c .taken + cut) ∷ []);
+            rest = on .0;
             last = c .taken + cut;
-            leads = λ k o more.
-                subst (λ l. UpTo (onward c block) (c .taken + length block) (lastCut c) l o) (sym (append-assoc (f .cuts) ((c .taken + cut) ∷ []) k))
-                (f .leads ((c .taken + cut) ∷ k) o (hop-to (is-cut t) (omega (arith, f .inside)) more));
+            final = f .final;
+            parted = f .parted ∙ ap (λ l. f .cuts ++ l) (on .1) ∙ sym (append-assoc (f .cuts) ((c .taken + cut) ∷ []) (on .0));
+            coming = on .2;
+            ends = f .ends;
             holds = holds-more (f .holds) room (c .taken + cut);
-            tied = omega arith;
+            tied = omega (arith, moves (f .inside) e);
             ahead = next-inside c block ok cut ∙ ap (λ x. c .taken + x) (sym e);
-            inside = on .1;
+            inside = moves (f .inside) e .1;
           }
 
       -- the bytes left fall; at the block's end, where there are none, the piece does
@@ -142,8 +145,8 @@ module _ (c : Carry) (block : List ℕ) (ok : Usable c) (some : 0 < length block
           → (Full ≡ filledOf c block (length list₀)) × (list ≡ writtenList (cutsIn c block) list₀)
       unfolding filledOf
       full t e =
-          let more = up-to (onward c block) (c .taken + length block) rises (c .taken + cut) in
-          let all = same-cuts (f .leads _ _ (hop-to (is-cut t) (omega (arith, f .inside)) more)) .0 in
+          let on = leaps (f .coming) (is-cut t) (omega (arith, f .inside)) in
+          let all : cutsIn c block ≡ f .cuts ++ ((c .taken + cut) ∷ on .0) = f .parted ∙ ap (λ l. f .cuts ++ l) (on .1) in
           let long : length list₀ < length (cutsIn c block) = rw (all, length-append) (omega (arith, f .holds .counted)) in (
             rw (lt-leb _ _ long),
             rw all (holds-full (f .holds) _ e),
@@ -155,10 +158,10 @@ module _ (c : Carry) (block : List ℕ) (ok : Usable c) (some : 0 < length block
       unfolding filledOf
       done t =
           let at-end = no-cut t in
-          let found = same-cuts (f .leads [] (f .last) (past {c = f .last} (at-end .1))) in
-          let all : cutsIn c block ≡ f .cuts = found .0 ∙ append-nil (f .cuts) in
+          let (none, final-is) = no-more (f .coming) (at-end .1) in
+          let all : cutsIn c block ≡ f .cuts = f .parted ∙ ap (λ l. f .cuts ++ l) none ∙ append-nil (f .cuts) in
           let short : length (cutsIn c block) ≤ length list₀ = rw all (omega (arith, f .holds .counted, f .holds .room)) in
-          let since : piece ≡ blockTaken c block .since = omega (arith, found .1, hopped .tied, f .tied) in (
+          let since : piece ≡ blockTaken c block .since = omega (arith, f .ends, f .tied) in (
             rw (le-leb _ _ short) (ap₂ Reached (f .holds .counted ∙ ap length (sym all)) since),
             rw all (holds-all (f .holds)),
           )
