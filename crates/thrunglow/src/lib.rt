@@ -2,7 +2,7 @@
 // answers, as structs by value with document 01's number in front (0 for a success).
 pub mod amends;
 pub mod answers;
-pub mod pass;
+pub mod passes;
 pub mod segments;
 pub mod sheets;
 pub mod whole;

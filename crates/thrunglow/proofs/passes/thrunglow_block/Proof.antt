@@ -1,9 +1,9 @@
--- `thrunglow::pass::thrunglow_block` meets its contract: it hands on what `block` answers.
+-- `thrunglow::passes::thrunglow_block` meets its contract: it hands on what `block` answers.
 use mathlib.Core.Path.{ap, _∙_}
 use Rattle.thrunglow.specs.Pass.{passedOf}
 use borrow.Author.Needs.{needs}
-use Rattle.thrunglow.proofs.pass.thrunglow_block.Statement.{statement}
-use Rattle.thrunglow.proofs.pass.thrunglow_block.Tie as tie
+use Rattle.thrunglow.proofs.passes.thrunglow_block.Statement.{statement}
+use Rattle.thrunglow.proofs.passes.thrunglow_block.Tie as tie
 
 block-requires : tie.Need-block-requires
 block-requires c κs = search needs

@@ -1,11 +1,11 @@
--- `thrunglow::pass::handed` meets its contract: the answer's number and count, with the carry.
+-- `thrunglow::passes::handed` meets its contract: the answer's number and count, with the carry.
 use mathlib.Core.Path.{ap}
 use Rattle.carry.specs.declared.Carry.{Carry}
 use Rattle.thrunglow.specs.declared.answers.Outcome.{Outcome}
-use Rattle.thrunglow.specs.declared.pass.Passed.{Passed}
+use Rattle.thrunglow.specs.declared.passes.Passed.{Passed}
 use borrow.Author.Needs.{needs}
-use Rattle.thrunglow.proofs.pass.handed.Statement.{statement}
-use Rattle.thrunglow.proofs.pass.handed.Tie as tie
+use Rattle.thrunglow.proofs.passes.handed.Statement.{statement}
+use Rattle.thrunglow.proofs.passes.handed.Tie as tie
 
 abbrev withCarry : Carry → Outcome → Passed
 withCarry carry plain = record { number = plain .number; count = plain .count; carry = carry }

@@ -1,9 +1,9 @@
--- `thrunglow::pass::thrunglow_fresh` meets its contract: it hands on what `fresh` answers.
+-- `thrunglow::passes::thrunglow_fresh` meets its contract: it hands on what `fresh` answers.
 use mathlib.Core.Path.{ap, _∙_}
 use Rattle.thrunglow.specs.Pass.{passedOf}
 use borrow.Author.Needs.{needs}
-use Rattle.thrunglow.proofs.pass.thrunglow_fresh.Statement.{statement}
-use Rattle.thrunglow.proofs.pass.thrunglow_fresh.Tie as tie
+use Rattle.thrunglow.proofs.passes.thrunglow_fresh.Statement.{statement}
+use Rattle.thrunglow.proofs.passes.thrunglow_fresh.Tie as tie
 
 fresh-requires : tie.Need-fresh-requires
 fresh-requires c κs = search needs

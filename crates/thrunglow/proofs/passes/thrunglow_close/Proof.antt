@@ -1,9 +1,9 @@
--- `thrunglow::pass::thrunglow_close` meets its contract: it hands on what `close` answers.
+-- `thrunglow::passes::thrunglow_close` meets its contract: it hands on what `close` answers.
 use mathlib.Core.Path.{ap, _∙_}
 use Rattle.thrunglow.specs.Pass.{passedOf}
 use borrow.Author.Needs.{needs}
-use Rattle.thrunglow.proofs.pass.thrunglow_close.Statement.{statement}
-use Rattle.thrunglow.proofs.pass.thrunglow_close.Tie as tie
+use Rattle.thrunglow.proofs.passes.thrunglow_close.Statement.{statement}
+use Rattle.thrunglow.proofs.passes.thrunglow_close.Tie as tie
 
 close-requires : tie.Need-close-requires
 close-requires c κs = search needs
