@@ -3,15 +3,11 @@ use Prim.Native.Nat.{ℕ, _+_, _≤_, _<_}
 use mathlib.Core.Path.{_≡_, refl, sym, ap, ap₂, _∙_}
 use mathlib.Core.List.{List, [], _∷_, _++_}
 use native.Mathlib.Omega.{arith}
-use lib.ListN.{length, take, set, length-take, length-append}
+use lib.ListN.{length, take, set, length-append}
 use lib.Seq.{take-all, take-append-le}
 use Rattle.laws.specs.Over.{over}
 use Rattle.laws.proofs.Writing.{over-none, over-more, length-over, take-over}
 use Rattle.cutting.specs.WholeLog.{writtenList}
-
-pub length-written : (l list : List ℕ) → length (writtenList l list) ≡ length list
-unfolding writtenList
-length-written l list = length-over (take (length list) l) list (rw length-take (omega arith))
 
 -- there is room for all
 pub written-whole : (l list : List ℕ) → length l ≤ length list → writtenList l list ≡ over l list
@@ -26,7 +22,7 @@ pub written-first : (l list : List ℕ) → length l ≤ length list → take (l
 written-first l list h = ap (take (length l)) (written-whole l list h) ∙ take-over l list
 
 -- there is no room past l
-pub written-part : (l m list : List ℕ) → length list ≤ length l → writtenList (l ++ m) list ≡ writtenList l list
+written-part : (l m list : List ℕ) → length list ≤ length l → writtenList (l ++ m) list ≡ writtenList l list
 unfolding writtenList
 written-part l m list h = ap (λ k. over k list) (take-append-le (length list) l m h)
 
