@@ -40,8 +40,8 @@ module _ (mark : ℕ → Bool) (lo hi m d p : ℕ) (tied : m + d ≡ p) (order :
       (λ e. let short : (d ≡ hi → ⊥) = eqb-false d hi (rw (le-leb lo d long, e) at passes) in
       hop-on mark lo hi m p ahead (omega (arith, near)) e))
 
--- m is the last cut before the bytes that the carry has still to take
-pub record Stands (mark : ℕ → Bool) (c : Carry) (m : ℕ) : Type 0 where
+-- m is the last cut, and the hop from it ends past the bytes that the carry has taken
+pub record Continues (mark : ℕ → Bool) (c : Carry) (m : ℕ) : Type 0 where
   pub tied : m + c .since ≡ c .taken
   pub ahead : c .taken < hop mark (c .settings .minimum) (c .settings .maximum) m
 
@@ -51,7 +51,7 @@ pub record Hopped (mark : ℕ → Bool) (c : Carry) (block : List ℕ) (m : ℕ)
   pub tied : last + blockTaken c block .since ≡ c .taken + length block
   pub cuts : UpTo (hop mark (c .settings .minimum) (c .settings .maximum)) (c .taken + length block) m (cutsIn c block) last
 
-module _ (mark : ℕ → Bool) (c : Carry) (b : ℕ) (bs : List ℕ) (sees : Sees mark c (b ∷ bs)) {m : ℕ} (at : Stands mark c m) where
+module _ (mark : ℕ → Bool) (c : Carry) (b : ℕ) (bs : List ℕ) (sees : Sees mark c (b ∷ bs)) {m : ℕ} (at : Continues mark c m) where
   -- the test of the definition is the rule's
   test-here : cutsAt c b ≡ (leb (c .settings .minimum) (c .since + 1) && (mark (c .taken + 1) || eqb (c .since + 1) (c .settings .maximum)))
   unfolding cutsAt
@@ -64,7 +64,7 @@ module _ (mark : ℕ → Bool) (c : Carry) (b : ℕ) (bs : List ℕ) (sees : See
       rw (here, first-window (c .window) b (sees .whole) bs))
 
   -- the byte ends a piece: the hop from m ends here
-  cut-on : cutsAt c b ≡ true → (hop mark (c .settings .minimum) (c .settings .maximum) m ≡ c .taken + 1) × Stands mark (byteTaken c b) (c .taken + 1)
+  cut-on : cutsAt c b ≡ true → (hop mark (c .settings .minimum) (c .settings .maximum) m ≡ c .taken + 1) × Continues mark (byteTaken c b) (c .taken + 1)
   unfolding byteTaken
   cut-on e = (
     cut-here mark (c .settings .minimum) (c .settings .maximum) m (c .since + 1) (c .taken + 1) (omega (arith, at .tied)) (sees .order) (omega (arith, at .ahead)) (sym test-here ∙ e),
@@ -75,7 +75,7 @@ module _ (mark : ℕ → Bool) (c : Carry) (b : ℕ) (bs : List ℕ) (sees : See
   )
 
   -- it does not: the hop from m goes on
-  none-on : cutsAt c b ≡ false → Stands mark (byteTaken c b) m
+  none-on : cutsAt c b ≡ false → Continues mark (byteTaken c b) m
   unfolding byteTaken
   none-on e =
       record {
@@ -84,7 +84,7 @@ module _ (mark : ℕ → Bool) (c : Carry) (b : ℕ) (bs : List ℕ) (sees : See
       }
 
 -- a block's cuts are the hops up to its end, from the last cut before it
-pub block-hops : (mark : ℕ → Bool) (block : List ℕ) (c : Carry) (m : ℕ) → Sees mark c block → Stands mark c m → Hopped mark c block m
+pub block-hops : (mark : ℕ → Bool) (block : List ℕ) (c : Carry) (m : ℕ) → Sees mark c block → Continues mark c m → Hopped mark c block m
 unfolding byteTaken blockTaken cutsIn
 block-hops mark [] c m sees at =
     record {

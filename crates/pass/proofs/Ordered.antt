@@ -15,7 +15,7 @@ use Rattle.signature.specs.Signatures.{signatureOf}
 use Rattle.cutting.specs.Marks.{mark}
 use Rattle.carry.specs.declared.Carry.{Carry}
 use Rattle.carry.specs.Carries.{allZero, inOrder}
-use Rattle.pass.proofs.Prefix.{CarryOf, stands-there}
+use Rattle.pass.proofs.Prefix.{CarryOf, continues-there}
 
 -- of k zeros before a log, those past the first t are zero
 zeros : (k t : ℕ) (log : List ℕ) → allZero (take (k - t) (drop t (replicate k 0 ++ log))) ≡ true
@@ -36,7 +36,7 @@ module _ (s : Settings) (log rest written : List ℕ) (c : Carry) (ok : Ranges s
   below : c .since < c .settings .maximum
   below =
       let order : c .settings .minimum ≤ c .settings .maximum = rw (is .same) (ok .ordered) in
-      let there = stands-there s log rest written c ok is in
+      let there = continues-there s log rest written c ok is in
       omega (arith, there .tied, there .ahead, hop-long (mark s log) (c .settings .minimum) (c .settings .maximum) (is .last) order)
 
   pub in-order : length log ≤ longest → inOrder c ≡ true

@@ -18,7 +18,7 @@ use Rattle.cutting.proofs.Marked.{mark-within}
 use Rattle.carry.specs.declared.Carry.{Carry}
 use Rattle.carry.specs.Carries.{freshCarry, blockTaken, cutsIn}
 use Rattle.carry.proofs.Sees.{Sees, sees-first}
-use Rattle.carry.proofs.Bytes.{Stands, Hopped, block-hops}
+use Rattle.carry.proofs.Bytes.{Continues, Hopped, block-hops}
 use Rattle.carry.proofs.Parts.{length-slid-by, Parts, parts}
 
 -- the log with the zeros that a window shows before its start
@@ -79,15 +79,15 @@ module _ (s : Settings) (log rest written : List ℕ) (c : Carry) (ok : Ranges s
             ∙ ap (λ t. matches t (signatureOf (take 48 (drop (suc i) (c .window ++ rest))))) (sym (is .same));
       }
 
-  pub stands-there : Stands (mark s log) c (is .last)
-  stands-there = record { tied = is .tied; ahead = rw (is .same) (stands (onward s log) (c .taken) (rises s log ok) (is .cuts) .ahead) }
+  pub continues-there : Continues (mark s log) c (is .last)
+  continues-there = record { tied = is .tied; ahead = rw (is .same) (stands (onward s log) (c .taken) (rises s log ok) (is .cuts) .ahead) }
 
 -- a block keeps it: the cuts that it makes are those of the log up to its end
 module _ (s : Settings) (log block after written : List ℕ) (c : Carry) (ok : Ranges s) (is : CarryOf s log (block ++ after) written c) where
   hopped : Hopped (mark s log) c block (is .last)
   hopped =
       block-hops (mark s log) block c (is .last)
-      (sees-first (mark s log) c block after (sees-rest s log (block ++ after) written c ok is)) (stands-there s log (block ++ after) written c ok is)
+      (sees-first (mark s log) c block after (sees-rest s log (block ++ after) written c ok is)) (continues-there s log (block ++ after) written c ok is)
 
   left : Parts c block (blockTaken c block)
   left = parts block c (is .whole) (is .signed)

@@ -53,7 +53,7 @@ module _ (mark : ℕ → Bool) (other : ℕ) where
 
 -- a search from first to last, and one that stops or starts in between
 module _ (mark : ℕ → Bool) (first last : ℕ) where
-  -- up to edge: what stops below edge is a mark, and the first up to last too
+  -- up to edge: where it stops below edge is a mark, and the first up to last too
   pub first-early : (edge : ℕ) → edge ≤ last → firstMark mark (suc edge - first) first edge < edge
       → firstMark mark (suc last - first) first last ≡ firstMark mark (suc edge - first) first edge
   first-early edge within = early (first-is mark edge (suc edge - first) first)
@@ -62,7 +62,7 @@ module _ (mark : ℕ → Bool) (first last : ℕ) where
       early (at-mark r lo hi m u) h = first-at mark last (suc last - first) first r lo (omega arith) m u
       early (none-there u) h = absurd (omega arith)
 
-  -- what does not has passed no mark below edge
+  -- where it does not, nothing below edge is a mark
   pub none-early : (edge : ℕ) → edge ≤ firstMark mark (suc edge - first) first edge → Unmarked mark first edge
   none-early edge = passed (first-is mark edge (suc edge - first) first)
     where

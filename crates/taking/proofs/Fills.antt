@@ -23,7 +23,7 @@ use Rattle.carry.proofs.Bytes.{block-hops, cut-here, none-here}
 use Rattle.carry.proofs.Parts.{length-slid-by}
 use Rattle.taking.specs.declared.filling.Filled.the-variants.{Full, Reached}
 use Rattle.taking.specs.Taking.{firstCut, isCut, filledOf}
-use Rattle.taking.proofs.Moves.{lastCut, seenBy, onward, toEnd, seen-signature, sees-block, stands-here, next-first, next-inside}
+use Rattle.taking.proofs.Moves.{lastCut, seenBy, onward, toEnd, seen-signature, sees-block, continues-here, next-first, next-inside}
 
 -- the cuts up to last are written over the first entries of list₀, the rest are to come, and final is the last of them all; the piece from last
 -- on reaches, with so many bytes, to the offset cut of the block
@@ -61,7 +61,7 @@ module _ (c : Carry) (block : List ℕ) (ok : Usable c) (some : 0 < length block
       → Filling c block list list 0 first (c .since + first)
   start list first e =
       let here : toEnd c block (lastCut c) ≡ c .taken + first = next-first c block ok ∙ ap (λ x. c .taken + x) (sym e) in
-      let hopped = block-hops (seenBy c block) block c (lastCut c) (sees-block c block ok) (stands-here c block ok) in
+      let hopped = block-hops (seenBy c block) block c (lastCut c) (sees-block c block ok) (continues-here c block ok) in
       let within = next-step (seenBy c block) (c .settings .minimum) (c .settings .maximum) (c .taken + length block) (lastCut c) (ok .ranged .ordered) .inside in
       record {
         cuts = [];

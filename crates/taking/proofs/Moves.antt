@@ -17,7 +17,7 @@ use Rattle.cutting.proofs.Marked.{mark-within}
 use Rattle.carry.specs.declared.Carry.{Carry}
 use Rattle.carry.proofs.Usable.{Usable}
 use Rattle.carry.proofs.Sees.{Sees}
-use Rattle.carry.proofs.Bytes.{Stands}
+use Rattle.carry.proofs.Bytes.{Continues}
 use Rattle.taking.specs.Taking.{firstCut}
 use Rattle.taking.proofs.Seen.{shown, long, block-marks}
 
@@ -73,9 +73,9 @@ module _ (c : Carry) (block : List ℕ) where
         }
 
     -- the hop in hand ends past the bytes taken
-    pub stands-here : Stands (seenBy c block) c (lastCut c)
+    pub continues-here : Continues (seenBy c block) c (lastCut c)
     unfolding hop
-    stands-here =
+    continues-here =
         record {
           tied = omega (arith, ok .begun);
           ahead = ends (first-is (seenBy c block) (lastCut c + c .settings .maximum) (suc (c .settings .maximum) - c .settings .minimum) (lastCut c + c .settings .minimum));
