@@ -5,8 +5,8 @@ use borrow.Author.Needs.{needs}
 use Rattle.figures.proofs.amends.edit.Statement.{statement}
 use Rattle.figures.proofs.amends.edit.Tie as tie
 
-settings-requires : tie.Need-settings-requires
-settings-requires c κs = search needs
+all-bits-requires : tie.Need-all-bits-requires
+all-bits-requires c κs = search needs
 
 slice-aggregate-amend : tie.Need-slice-aggregate-amend
 slice-aggregate-amend c = sym (length-take-le _ _ (c .before .before .if1 .taken))
@@ -33,7 +33,7 @@ pub edit-spec : {M : Type 1} → statement M
 edit-spec =
     tie.close
     (tie.spec
-    settings-requires
+    all-bits-requires
     slice-aggregate-amend
     amend-requires
     counts-requires
