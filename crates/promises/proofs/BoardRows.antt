@@ -24,8 +24,8 @@ use Rattle.board.specs.Bays.{bayOf, isDone, isSound}
 use Rattle.board.specs.Merging.{judged, ifGranted, bayJudged, baysJudged, mergeJudged, boardWalk, mergeAnswer, mergeList}
 use Rattle.board.specs.Recording.{segmentOf, recordFits, recordAnswer, recorded, bayAnswer, bayAfter, segmentAnswer}
 use Rattle.promises.specs.Rows.{Row, row, whether, firstRow, segmentRows, bayRows, mergeRows}
-use Rattle.promises.proofs.Rows.{unless-not, unless-at-most}
-use Rattle.promises.proofs.Leaves.{Leaves, guard-leaves}
+use Rattle.promises.specs.Leaves.{Leaves, BayLeaves}
+use Rattle.promises.proofs.Unless.{unless-not, unless-at-most, guard-leaves}
 
 -- the number of a verdict, or what comes later where it is granted
 abbrev verdictOr : ℕ → Verdict → ℕ
@@ -132,11 +132,6 @@ merge-leaves s n size width board list =
     let walk = boardWalk s n size width board in
     granted-leaves (mergeJudged s n size width board (length list)) (writtenAnswer walk (length list)) (plain-merge s n size width board (length list))
     (guard-leaves answerNumber (leb (length walk) (length list)) walk list refl refl)
-
--- what recording leaves in a bay lent alone: 6 marks it not done and fills it as far as it goes, every other refusal leaves it as it was
-pub record BayLeaves (number : ℕ) (offsets before after : List ℕ) : Type 0 where
-  pub untouched : (number ≡ 0 → ⊥) → (number ≡ 6 → ⊥) → after ≡ before
-  pub too-long : number ≡ 6 → after ≡ 0 ∷ 0 ∷ take (length before - 2) offsets
 
 fitting-leaves : (fits : Bool) (r : Record) (bay : List ℕ)
     → BayLeaves (answerNumber (unless fits (Refused RecordTooLong) (Wrote (2 + length (r .offsets))))) (r .offsets) bay

@@ -21,7 +21,7 @@ use Rattle.board.specs.Records.{entries, marksAmong, marksIn, isMarker, prepend
 use Rattle.board.specs.Bays.{bayOf}
 use Rattle.board.specs.Merging.{judged}
 use Rattle.board.specs.Recording.{recordFits, recordAnswer, recorded, withBay, segmentAnswer, segmentBoard}
-use Rattle.promises.specs.Figures.{Figure, power, cuts, segment, Holds, starred, logA, logC}
+use Rattle.promises.specs.Figures.{Figure, power, cuts, segment, Holds, starred, Each, none, and-each, logA, logC}
 
 sameLists : List ℕ → List ℕ → Bool
 sameLists [] [] = true
@@ -55,11 +55,6 @@ told (segment settings log size width i board number after) e = let both = both-
 testAll : List Figure → Bool
 testAll [] = true
 testAll (f ∷ fs) = test f && testAll fs
-
--- each figure of a table holds
-pub data Each : List Figure → Type 0 where
-  none : Each []
-  and-each : {f : Figure} {fs : List Figure} → Holds f → Each fs → Each (f ∷ fs)
 
 each : (fs : List Figure) → testAll fs ≡ true → Each fs
 unfolding testAll
