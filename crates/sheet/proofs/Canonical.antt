@@ -15,14 +15,15 @@ use Rattle.terms.specs.declared.Label.{Label}
 use Rattle.terms.specs.Labels.{byteOf}
 use Rattle.sheet.specs.declared.trailer.Trailer.{Trailer}
 use Rattle.sheet.specs.declared.Sheet.the-variants.{Read}
-use Rattle.sheet.specs.Numbers.{bigEndian, written, numbersOf, numberAt}
+use Rattle.words.specs.Numbers.{bigEndian, written, numbersOf, numberAt}
 use Rattle.sheet.specs.Trailer.{mark, fields, trailerFor, trailerIn}
 use Rattle.sheet.specs.Sheets.{checkWord, checked, withCheck, sheetOf}
-use Rattle.sheet.specs.Read.{same, trailerBytes, trailerOf, sheetIn, listIn, hasTrailer, readAnswer}
-use Rattle.sheet.proofs.BigEndian.{length-numbers, bytes-part}
+use Rattle.words.specs.Runs.{same}
+use Rattle.sheet.specs.Read.{trailerBytes, trailerOf, sheetIn, listIn, hasTrailer, readAnswer}
+use Rattle.words.proofs.BigEndian.{length-numbers, bytes-part}
 use Rattle.laws.specs.Bytes.{Bytes}
 use Rattle.laws.proofs.Bytes.{bytes-drop}
-use Rattle.sheet.proofs.Back.{bigEndian-numberAt, written-numbers}
+use Rattle.words.proofs.Back.{bigEndian-numberAt, written-numbers}
 use Rattle.sheet.proofs.Reading.{Accepts, read-accepts, read-is, right-facts}
 
 same-true : (a b : List ℕ) → same a b ≡ true → a ≡ b

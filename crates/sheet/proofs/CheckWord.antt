@@ -10,9 +10,9 @@ use borrow.Author.Tests.{eq-eqb, ne-eqb, eqb-true}
 use lib.Dec.{lit<}
 use lib.ListN.{length, take, drop, take-append-drop}
 use lib.Seq.{length-take-le}
-use Rattle.sheet.specs.Numbers.{numbers, numbersOf, numberAt}
+use Rattle.words.specs.Numbers.{numbers, numbersOf, numberAt}
 use Rattle.sheet.specs.Sheets.{total, checkWord, checked}
-use Rattle.sheet.proofs.BigEndian.{numbers-more, numbers-front}
+use Rattle.words.proofs.BigEndian.{numbers-more, numbers-front}
 
 pub total-append : (l m : List ℕ) → total (l ++ m) ≡ total l + total m
 unfolding total

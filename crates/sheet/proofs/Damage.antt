@@ -23,14 +23,14 @@ use Rattle.lists.specs.WellFormed.{wellFormed}
 use Rattle.sheet.specs.declared.trailer.Trailer.{Trailer}
 use Rattle.sheet.specs.declared.Sheet.{Sheet}
 use Rattle.sheet.specs.declared.Sheet.the-variants.{Read, Refused}
-use Rattle.sheet.specs.Numbers.{bigEndian, written, numbersOf, numberAt}
+use Rattle.words.specs.Numbers.{bigEndian, written, numbersOf, numberAt}
 use Rattle.sheet.specs.Trailer.{mostCuts, fields, trailerFor, trailerIn}
 use Rattle.sheet.specs.Sheets.{total, checkWord, checked, withCheck, sheetOf}
 use Rattle.sheet.specs.Write.{writeAnswer, bytesAfter}
 use Rattle.sheet.specs.Read.{trailerBytes, trailerOf, sheetIn, readAnswer}
-use Rattle.sheet.proofs.BigEndian.{length-written, length-numbers}
+use Rattle.words.proofs.BigEndian.{length-written, length-numbers}
 use Rattle.laws.specs.Bytes.{Bytes}
-use Rattle.sheet.proofs.Back.{Wide, numbers-written, written-numbers, drop-written, numberAt-written, numbers-wide, bytes-test, bytes-append, bytes-bigEndian, bytes-written}
+use Rattle.words.proofs.Back.{Wide, numbers-written, written-numbers, drop-written, numberAt-written, numbers-wide, bytes-test, bytes-append, bytes-bigEndian, bytes-written}
 use Rattle.sheet.proofs.CheckWord.{checked-adds}
 use Rattle.sheet.proofs.Reading.{Accepts, read-accepts, right-facts}
 use Rattle.sheet.proofs.RoundTrip.{found}

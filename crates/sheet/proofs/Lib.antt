@@ -1,10 +1,7 @@
-pub mod BigEndian
 pub mod CheckWord
-pub mod Same
 pub mod Offsets
 pub mod Parts
 pub mod Reading
-pub mod Back
 pub mod RoundTrip
 pub mod Promised
 pub mod Damage

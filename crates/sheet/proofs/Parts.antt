@@ -9,10 +9,10 @@ use Rattle.terms.specs.declared.Settings.{Settings}
 use Rattle.terms.specs.declared.Label.{Label}
 use Rattle.terms.specs.Labels.{byteOf}
 use Rattle.sheet.specs.declared.trailer.Trailer.{Trailer}
-use Rattle.sheet.specs.Numbers.{bigEndian, written, numbersOf}
+use Rattle.words.specs.Numbers.{bigEndian, written, numbersOf}
 use Rattle.sheet.specs.Trailer.{mark, fields, trailerFor}
 use Rattle.sheet.specs.Sheets.{checkWord, withCheck, sheetOf}
-use Rattle.sheet.proofs.BigEndian.{length-written}
+use Rattle.words.proofs.BigEndian.{length-written}
 
 pub length-fields : (t : Trailer) → length (fields t) ≡ 28
 unfolding fields written bigEndian

@@ -20,12 +20,12 @@ use Rattle.terms.specs.Labels.{byteOf}
 use Rattle.terms.specs.Settings.{inRange}
 use Rattle.lists.specs.WellFormed.{wellFormed}
 use Rattle.sheet.specs.declared.Sheet.the-variants.{Read, Refused}
-use Rattle.sheet.specs.Numbers.{written, numbersOf}
+use Rattle.words.specs.Numbers.{written, numbersOf}
 use Rattle.sheet.specs.Trailer.{mostCuts, trailerFor, fields, trailerIn}
 use Rattle.sheet.specs.Sheets.{total, withCheck, sheetOf}
 use Rattle.sheet.specs.Write.{writeAnswer, bytesAfter}
 use Rattle.sheet.specs.Read.{trailerBytes, trailerOf, readAnswer, listAfter}
-use Rattle.sheet.proofs.BigEndian.{length-bigEndian}
+use Rattle.words.proofs.BigEndian.{length-bigEndian}
 use Rattle.sheet.proofs.Parts.{length-front}
 use Rattle.sheet.proofs.Reading.{read-accepts, read-is, judged}
 use Rattle.sheet.proofs.RoundTrip.{checked-with, found, reads-again}

@@ -20,10 +20,11 @@ use Rattle.terms.specs.Labels.{byteOf}
 use Rattle.terms.specs.Settings.{inRange}
 use Rattle.sheet.specs.declared.trailer.Trailer.{Trailer}
 use Rattle.sheet.specs.declared.Sheet.the-variants.{Read, Refused}
-use Rattle.sheet.specs.Numbers.{numbersOf}
+use Rattle.words.specs.Numbers.{numbersOf}
 use Rattle.sheet.specs.Trailer.{mark, mostCuts, isLabel, trailerIn, trailerRight}
 use Rattle.sheet.specs.Sheets.{checked}
-use Rattle.sheet.specs.Read.{same, trailerBytes, trailerOf, sheetIn, listIn, hasTrailer, hasList, readAnswer, listAfter}
+use Rattle.words.specs.Runs.{same}
+use Rattle.sheet.specs.Read.{trailerBytes, trailerOf, sheetIn, listIn, hasTrailer, hasList, readAnswer, listAfter}
 
 pub record Right (before : ℕ) (t : Trailer) : Type 0 where
   pub label : isLabel (t .label) ≡ true

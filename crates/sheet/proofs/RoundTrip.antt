@@ -19,13 +19,14 @@ use Rattle.terms.specs.Settings.{inRange}
 use Rattle.terms.proofs.Ranges.{ranges}
 use Rattle.lists.specs.WellFormed.{wellFormed, stepsFit, stepFits}
 use Rattle.sheet.specs.declared.trailer.Trailer.{Trailer}
-use Rattle.sheet.specs.Numbers.{bigEndian, number, written, numbersOf, numberAt}
+use Rattle.words.specs.Numbers.{bigEndian, number, written, numbersOf, numberAt}
 use Rattle.sheet.specs.Trailer.{mostCuts, isLabel, fields, trailerIn, trailerFor, trailerRight}
 use Rattle.sheet.specs.Sheets.{checkWord, checked, withCheck, sheetOf}
-use Rattle.sheet.specs.Read.{same, trailerBytes, trailerOf, sheetIn, listIn, hasTrailer, hasList, readAnswer}
-use Rattle.sheet.proofs.BigEndian.{length-bigEndian, length-written, number-bigEndian}
+use Rattle.words.specs.Runs.{same}
+use Rattle.sheet.specs.Read.{trailerBytes, trailerOf, sheetIn, listIn, hasTrailer, hasList, readAnswer}
+use Rattle.words.proofs.BigEndian.{length-bigEndian, length-written, number-bigEndian}
 use Rattle.sheet.proofs.CheckWord.{checkWord-lt}
-use Rattle.sheet.proofs.Back.{Wide, numbers-written}
+use Rattle.words.proofs.Back.{Wide, numbers-written}
 use Rattle.sheet.specs.declared.Sheet.the-variants.{Read}
 use Rattle.sheet.proofs.Reading.{judged}
 use Rattle.sheet.proofs.Parts.{length-fields, length-front}

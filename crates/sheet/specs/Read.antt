@@ -1,7 +1,7 @@
 -- Reading a sheet, refusals in their order: document 01, "Numbers answered".
 use Prim.Native.Nat.{ℕ, _-_}
-use mathlib.Core.Bool.{Bool, true, false, _&&_}
-use mathlib.Core.List.{List, [], _∷_}
+use mathlib.Core.Bool.{Bool, _&&_}
+use mathlib.Core.List.{List}
 use lib.Dec.{leb, eqb}
 use lib.ListN.{length, take, drop}
 use Rattle.laws.specs.Over.{over}
@@ -13,15 +13,10 @@ use Rattle.lists.specs.WellFormed.{wellFormed}
 use Rattle.sheet.specs.declared.trailer.Trailer.{Trailer}
 use Rattle.sheet.specs.declared.Sheet.{Sheet}
 use Rattle.sheet.specs.declared.Sheet.the-variants.{Read, Refused}
-use Rattle.sheet.specs.Numbers.{numbersOf}
+use Rattle.words.specs.Numbers.{numbersOf}
+use Rattle.words.specs.Runs.{same}
 use Rattle.sheet.specs.Trailer.{mark, trailerIn, trailerRight}
 use Rattle.sheet.specs.Sheets.{checked}
-
-unfoldable pub same : List ℕ → List ℕ → Bool
-same [] [] = true
-same [] (b ∷ m) = false
-same (a ∷ l) [] = false
-same (a ∷ l) (b ∷ m) = eqb a b && same l m
 
 -- the trailer is the last 32 bytes
 unfoldable pub trailerBytes : List ℕ → List ℕ

@@ -1,9 +1,9 @@
 // The check word of a sheet.
-use crate::numbers::number_at;
+use words::numbers::number_at;
 ghost use mathlib.Core.Path.{_≡_};
 ghost use Prim.Native.Nat.{_≤_};
 ghost use lib.ListN.{length};
-ghost use Rattle.sheet.specs.Numbers.{numbersOf};
+ghost use Rattle.words.specs.Numbers.{numbersOf};
 ghost use Rattle.sheet.specs.Sheets.{checkWord, checked};
 
 // The word that, after the words of these bytes, makes all add to zero modulo 2^32.

@@ -1,14 +1,12 @@
 // The cut sheet: a list of cuts with its settings and label, written to bytes and read back.
+mod body;
 mod check;
-mod numbers;
 mod trailer;
 
+use body::is_well_formed;
+use body::take_offsets;
 use check::check_word;
 use check::is_checked;
-use numbers::number_at;
-use numbers::put_number;
-use numbers::put_numbers;
-use numbers::take_offsets;
 use terms::Answer;
 use terms::Label;
 use terms::Refusal;
@@ -17,12 +15,12 @@ use trailer::is_marked;
 use trailer::is_right;
 use trailer::put_fields;
 use trailer::trailer_in;
+use words::numbers::put_number;
+use words::numbers::put_numbers;
 ghost use mathlib.Core.Path.{_≡_};
 ghost use Prim.Native.Nat.{_+_, _*_, _≤_, _<_};
 ghost use lib.ListN.{length};
 ghost use Rattle.laws.specs.Over.{over};
-ghost use Rattle.lists.specs.WellFormed.{wellFormed};
-ghost use Rattle.sheet.specs.Numbers.{numbersOf};
 ghost use Rattle.sheet.specs.Sheets.{sheetOf};
 ghost use Rattle.sheet.specs.Write.{writeAnswer, bytesAfter};
 ghost use Rattle.sheet.specs.Read.{readAnswer, listAfter};
@@ -71,27 +69,6 @@ pub fn write_sheet(settings: Settings, label: Label, list: &[u64], bytes: &mut [
     }
     put_sheet(settings, label, list, bytes);
     Answer::Wrote(size as u64)
-}
-
-// Whether the offsets of a body are a well-formed list.
-fn is_well_formed(minimum: u64, maximum: u64, body: &[u8]) -> bool
-    ensures { λ r. ⌜ r ≡ wellFormed minimum maximum (numbersOf 8 (now (body .entry))) ⌝ }
-{
-    let count = body.len() / 8;
-    let mut before: u64 = 0;
-    let mut i = 0;
-    while i < count {
-        let entry = number_at(8, 8 * i, body);
-        if !lists::step_fits(minimum, maximum, i + 1 == count, before, entry) {
-            return false;
-        }
-        before = entry;
-        i += 1;
-    }
-    if before > 0x100_0000_0000 {
-        return false;
-    }
-    true
 }
 
 // Reads the sheet at the end of the bytes, where it bears the label that is asked for, and writes its list.

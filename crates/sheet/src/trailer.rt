@@ -1,14 +1,16 @@
 // The trailer of a sheet, each way.
-use crate::numbers::number_at;
-use crate::numbers::put_numbers;
 use terms::Label;
 use terms::Settings;
+use words::numbers::number_at;
+use words::numbers::put_numbers;
+use words::runs::put_bytes;
+use words::runs::same_bytes;
 ghost use mathlib.Core.Path.{_≡_};
 ghost use Prim.Native.Nat.{_+_, _*_, _≤_, _<_};
 ghost use lib.ListN.{length, take};
 ghost use Rattle.laws.specs.Over.{overFrom};
 ghost use Rattle.sheet.specs.Trailer.{mark, fields, trailerIn, trailerFor, isLabel, trailerRight};
-ghost use Rattle.sheet.specs.Read.{same};
+ghost use Rattle.words.specs.Runs.{same};
 
 // The fields of a trailer, as they stand in its bytes.
 pub struct Trailer {
@@ -17,23 +19,6 @@ pub struct Trailer {
     pub zeros: u64,
     pub count: u64,
     pub distance: u64,
-}
-
-// Whether two runs of bytes are the same.
-pub fn same_bytes(a: &[u8], b: &[u8]) -> bool
-    ensures { λ r. ⌜ r ≡ same (now (a .entry)) (now (b .entry)) ⌝ }
-{
-    if a.len() != b.len() {
-        return false;
-    }
-    let mut i = 0;
-    while i < a.len() {
-        if a[i] != b[i] {
-            return false;
-        }
-        i += 1;
-    }
-    true
 }
 
 // Whether a trailer begins with the mark. It is inner: the caller sees that there are as many bytes.
@@ -106,18 +91,6 @@ pub fn is_right(before: u64, trailer: Trailer) -> bool
         return false;
     }
     true
-}
-
-// Writes a run of bytes at a place. It is inner: the caller sees that there is room.
-pub fn put_bytes(part: &[u8], at: usize, bytes: &mut [u8])
-    requires { ⌜ at + length (now part) ≤ length (now bytes) ⌝ }
-    ensures { λ _. ⌜ now (bytes .exit) ≡ overFrom at (now (part .entry)) (now (bytes .entry)) ⌝ }
-{
-    let mut i = 0;
-    while i < part.len() {
-        bytes[at + i] = part[i];
-        i += 1;
-    }
 }
 
 // Writes the trailer of a sheet of count cuts, up to its check word, after a body of as many. It is inner: the caller sees that

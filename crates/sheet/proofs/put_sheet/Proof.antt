@@ -3,7 +3,7 @@ use mathlib.Core.Path.{sym}
 use native.Mathlib.Omega.{arith}
 use borrow.Author.Needs.{needs}
 use lib.Seq.{length-take-le}
-use Rattle.sheet.proofs.BigEndian.{length-written}
+use Rattle.words.proofs.BigEndian.{length-written}
 use Rattle.sheet.proofs.Parts.{sheet-written}
 use Rattle.sheet.proofs.put_sheet.Statement.{statement}
 use Rattle.sheet.proofs.put_sheet.Tie as tie

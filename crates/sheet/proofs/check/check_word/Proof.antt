@@ -4,7 +4,7 @@ use Prim.Native.Nat.{_-_, _/_, _%_, _^_, _≤_, _<_}
 use native.Mathlib.Omega.{arith}
 use borrow.Author.Needs.{needs}
 use lib.ListN.{length}
-use Rattle.sheet.specs.Numbers.{numbers, numbersOf}
+use Rattle.words.specs.Numbers.{numbers, numbersOf}
 use Rattle.sheet.specs.Sheets.{total}
 use Rattle.sheet.proofs.CheckWord.{sum-more, check-is}
 use Rattle.sheet.proofs.check.check_word.Statement.{statement}

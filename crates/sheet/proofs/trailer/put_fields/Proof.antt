@@ -1,7 +1,7 @@
 -- `sheet::trailer::put_fields` meets its contract: the parts are written one after the other.
 use native.Mathlib.Omega.{arith}
 use borrow.Author.Needs.{needs}
-use Rattle.sheet.specs.Numbers.{bigEndian, written}
+use Rattle.words.specs.Numbers.{bigEndian, written}
 use Rattle.sheet.proofs.Parts.{fields-written}
 use Rattle.sheet.proofs.trailer.put_fields.Statement.{statement}
 use Rattle.sheet.proofs.trailer.put_fields.Tie as tie

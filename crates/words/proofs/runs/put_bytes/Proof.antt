@@ -1,4 +1,4 @@
--- `sheet::trailer::put_bytes` meets its contract. The invariant: the first bytes are written over what was there.
+-- `words::runs::put_bytes` meets its contract. The invariant: the first bytes are written over what was there.
 use mathlib.Core.Path.{_≡_, refl, sym}
 use Prim.Native.Nat.{_-_, _≤_}
 use borrow.Author.Needs.{needs}
@@ -6,8 +6,8 @@ use lib.ListN.{length, take, length-set}
 use lib.Seq.{take-all}
 use Rattle.laws.specs.Over.{overFrom}
 use Rattle.laws.proofs.Writing.{overFrom-none, overFrom-next}
-use Rattle.sheet.proofs.trailer.put_bytes.Statement.{statement}
-use Rattle.sheet.proofs.trailer.put_bytes.Tie as tie
+use Rattle.words.proofs.runs.put_bytes.Statement.{statement}
+use Rattle.words.proofs.runs.put_bytes.Tie as tie
 
 abbrev Inv-loop : tie.InvT-loop
 Inv-loop part at bytes₀ i₀ bytes i = (i ≤ length part) × (bytes ≡ overFrom at (take i part) bytes₀) × (length bytes ≡ length bytes₀)

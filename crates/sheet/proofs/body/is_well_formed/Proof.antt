@@ -1,14 +1,14 @@
--- `sheet::is_well_formed` meets its contract. The invariant: the offsets are well formed exactly where their steps from the entry before on fit.
+-- `sheet::body::is_well_formed` meets its contract. The invariant: the offsets are well formed exactly where their steps from the entry before on fit.
 use mathlib.Core.Path.{_≡_, refl, sym, _∙_}
 use Prim.Native.Nat.{_-_, _/_, _≤_}
 use lib.ListN.{length, drop}
 use borrow.Author.Needs.{needs}
 use borrow.Author.Tests.{le-leb, lt-leb, not-true, not-false}
 use Rattle.lists.specs.WellFormed.{stepsFit, wellFormed}
-use Rattle.sheet.specs.Numbers.{numbersOf}
+use Rattle.words.specs.Numbers.{numbersOf}
 use Rattle.sheet.proofs.Offsets.{offset-passed, offset-refused, offsets-end}
-use Rattle.sheet.proofs.is_well_formed.Statement.{statement}
-use Rattle.sheet.proofs.is_well_formed.Tie as tie
+use Rattle.sheet.proofs.body.is_well_formed.Statement.{statement}
+use Rattle.sheet.proofs.body.is_well_formed.Tie as tie
 
 abbrev Inv-loop : tie.InvT-loop
 Inv-loop minimum maximum body count before₀ i₀ before i =

@@ -1,12 +1,12 @@
--- `sheet::trailer::same_bytes` meets its contract. The invariant: the runs are the same exactly where the rest of them is.
+-- `words::runs::same_bytes` meets its contract. The invariant: the runs are the same exactly where the rest of them is.
 use mathlib.Core.Path.{_≡_, refl, sym, _∙_}
 use Prim.Native.Nat.{_-_, _≤_}
 use borrow.Author.Needs.{needs}
 use lib.ListN.{length, drop}
-use Rattle.sheet.specs.Read.{same}
-use Rattle.sheet.proofs.Same.{same-unequal, same-passed, same-refused, same-end}
-use Rattle.sheet.proofs.trailer.same_bytes.Statement.{statement}
-use Rattle.sheet.proofs.trailer.same_bytes.Tie as tie
+use Rattle.words.specs.Runs.{same}
+use Rattle.words.proofs.Same.{same-unequal, same-passed, same-refused, same-end}
+use Rattle.words.proofs.runs.same_bytes.Statement.{statement}
+use Rattle.words.proofs.runs.same_bytes.Tie as tie
 
 abbrev Inv-loop : tie.InvT-loop
 Inv-loop a b i₀ i = (i ≤ length a) × (length a ≡ length b) × (same a b ≡ same (drop i a) (drop i b))

@@ -13,7 +13,7 @@ use Rattle.laws.specs.Bytes.{Bytes}
 use Rattle.laws.proofs.Bytes.{byte-power, number-lt, number-snoc, bytes-take, bytes-drop}
 use Rattle.laws.proofs.Writing.{over-more, overFrom-next, overFrom-join}
 use Rattle.laws.specs.Over.{over, overFrom}
-use Rattle.sheet.specs.Numbers.{bigEndian, number, written, numbers, numberAt}
+use Rattle.words.specs.Numbers.{bigEndian, number, written, numbers, numberAt}
 
 pub length-bigEndian : (width n : ℕ) → length (bigEndian width n) ≡ width
 unfolding bigEndian

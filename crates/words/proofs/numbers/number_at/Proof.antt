@@ -1,13 +1,13 @@
--- `sheet::numbers::number_at` meets its contract. The invariant: the number so far is that of the bytes so far, and within their range.
+-- `words::numbers::number_at` meets its contract. The invariant: the number so far is that of the bytes so far, and within their range.
 use mathlib.Core.Path.{_≡_, refl, sym}
 use Prim.Native.Nat.{_+_, _-_, _*_, _^_, _≤_, _<_}
 use native.Mathlib.Omega.{arith}
 use borrow.Author.Needs.{needs}
 use lib.Dec.{lit<}
-use Rattle.sheet.specs.Numbers.{numberAt, number}
-use Rattle.sheet.proofs.BigEndian.{numberAt-more, byte-more, within-64}
-use Rattle.sheet.proofs.numbers.number_at.Statement.{statement}
-use Rattle.sheet.proofs.numbers.number_at.Tie as tie
+use Rattle.words.specs.Numbers.{numberAt, number}
+use Rattle.words.proofs.BigEndian.{numberAt-more, byte-more, within-64}
+use Rattle.words.proofs.numbers.number_at.Statement.{statement}
+use Rattle.words.proofs.numbers.number_at.Tie as tie
 
 abbrev Inv-loop : tie.InvT-loop
 Inv-loop width at bytes number₀ i₀ number i = (i ≤ width) × (number ≡ numberAt at i bytes) × (number < 2 ^ (8 * i))

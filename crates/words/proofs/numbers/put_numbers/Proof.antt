@@ -1,4 +1,4 @@
--- `sheet::numbers::put_numbers` meets its contract. The invariant: the first numbers are written over what was there.
+-- `words::numbers::put_numbers` meets its contract. The invariant: the first numbers are written over what was there.
 use mathlib.Core.Path.{_≡_, refl, sym, _∙_}
 use Prim.Native.Nat.{_+_, _-_, _≤_}
 use native.Mathlib.Omega.{arith}
@@ -7,10 +7,10 @@ use lib.ListN.{length, take}
 use lib.Seq.{take-all}
 use Rattle.laws.specs.Over.{overFrom}
 use Rattle.laws.proofs.Writing.{overFrom-none}
-use Rattle.sheet.specs.Numbers.{written}
-use Rattle.sheet.proofs.BigEndian.{written-room, written-joined, length-written-more}
-use Rattle.sheet.proofs.numbers.put_numbers.Statement.{statement}
-use Rattle.sheet.proofs.numbers.put_numbers.Tie as tie
+use Rattle.words.specs.Numbers.{written}
+use Rattle.words.proofs.BigEndian.{written-room, written-joined, length-written-more}
+use Rattle.words.proofs.numbers.put_numbers.Statement.{statement}
+use Rattle.words.proofs.numbers.put_numbers.Tie as tie
 
 abbrev Inv-loop : tie.InvT-loop
 Inv-loop width list at bytes₀ place₀ i₀ bytes place i =

@@ -1,9 +1,9 @@
 // Big-endian numbers in bytes, each way.
 ghost use mathlib.Core.Path.{_≡_};
-ghost use Prim.Native.Nat.{_+_, _*_, _/_, _^_, _≤_, _<_};
+ghost use Prim.Native.Nat.{_+_, _*_, _^_, _≤_, _<_};
 ghost use lib.ListN.{length};
-ghost use Rattle.laws.specs.Over.{over, overFrom};
-ghost use Rattle.sheet.specs.Numbers.{bigEndian, written, numbersOf, numberAt};
+ghost use Rattle.laws.specs.Over.{overFrom};
+ghost use Rattle.words.specs.Numbers.{bigEndian, written, numberAt};
 
 fn wide(byte: u8) -> u64
     ensures { λ r. ⌜ r ≡ byte ⌝ }
@@ -48,18 +48,6 @@ pub fn put_numbers(width: usize, list: &[u64], at: usize, bytes: &mut [u8])
     while i < list.len() {
         put_number(width, list[i], place, bytes);
         place += width;
-        i += 1;
-    }
-}
-
-// Writes the offsets of a body to a list. It is inner: the caller sees that there is room.
-pub fn take_offsets(body: &[u8], list: &mut [u64])
-    requires { ⌜ length (now body) / 8 ≤ length (now list) ⌝ }
-    ensures { λ _. ⌜ now (list .exit) ≡ over (numbersOf 8 (now (body .entry))) (now (list .entry)) ⌝ }
-{
-    let mut i = 0;
-    while i < body.len() / 8 {
-        list[i] = number_at(8, 8 * i, body);
         i += 1;
     }
 }

@@ -13,8 +13,8 @@ use lib.Seq.{take-at, drop-at, drop-nil, drop-cons, drop-append-add, length-take
 use Rattle.laws.specs.Bytes.{Bytes}
 use Rattle.laws.proofs.Bytes.{number-lt, bytes-drop}
 use Rattle.laws.proofs.Cases.{both-true}
-use Rattle.sheet.specs.Numbers.{bigEndian, number, written, numbers, numberAt}
-use Rattle.sheet.proofs.BigEndian.{length-bigEndian, number-bigEndian, numberAt-lt, bytes-part}
+use Rattle.words.specs.Numbers.{bigEndian, number, written, numbers, numberAt}
+use Rattle.words.proofs.BigEndian.{length-bigEndian, number-bigEndian, numberAt-lt, bytes-part}
 
 -- every number of a list has a width
 abbrev pub Wide : ℕ → List ℕ → Type 0

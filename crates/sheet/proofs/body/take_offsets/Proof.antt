@@ -1,4 +1,4 @@
--- `sheet::numbers::take_offsets` meets its contract. The invariant: the body's first offsets are written over what was there.
+-- `sheet::body::take_offsets` meets its contract. The invariant: the body's first offsets are written over what was there.
 use mathlib.Core.Path.{_≡_, refl, sym}
 use Prim.Native.Nat.{_-_, _/_, _≤_}
 use native.Mathlib.Omega.{arith}
@@ -6,10 +6,10 @@ use borrow.Author.Needs.{needs}
 use lib.ListN.{length, length-set}
 use Rattle.laws.specs.Over.{over}
 use Rattle.laws.proofs.Writing.{over-none}
-use Rattle.sheet.specs.Numbers.{numbers, numbersOf}
-use Rattle.sheet.proofs.BigEndian.{offset-written}
-use Rattle.sheet.proofs.numbers.take_offsets.Statement.{statement}
-use Rattle.sheet.proofs.numbers.take_offsets.Tie as tie
+use Rattle.words.specs.Numbers.{numbers, numbersOf}
+use Rattle.words.proofs.BigEndian.{offset-written}
+use Rattle.sheet.proofs.body.take_offsets.Statement.{statement}
+use Rattle.sheet.proofs.body.take_offsets.Tie as tie
 
 abbrev Inv-loop : tie.InvT-loop
 Inv-loop body list₀ i₀ list i = (i ≤ length body / 8) × (list ≡ over (numbers 8 i body) list₀) × (length list ≡ length list₀)

@@ -9,7 +9,7 @@ use lib.Dec.{eqb}
 use borrow.Author.Tests.{eq-eqb, ne-eqb}
 use lib.ListN.{length, getD, drop, drop-of-length-le}
 use lib.Seq.{drop-cons}
-use Rattle.sheet.specs.Read.{same}
+use Rattle.words.specs.Runs.{same}
 
 pub same-unequal : (a b : List ℕ) → (length a ≡ length b → ⊥) → same a b ≡ false
 unfolding same

@@ -1,4 +1,4 @@
--- `sheet::numbers::put_number` meets its contract. The invariant: the number's first bytes are written over what was there.
+-- `words::numbers::put_number` meets its contract. The invariant: the number's first bytes are written over what was there.
 use mathlib.Core.Path.{_≡_, refl, sym}
 use Prim.Native.Nat.{_-_, _≤_}
 use native.Mathlib.Omega.{arith}
@@ -7,10 +7,10 @@ use lib.ListN.{length, take, length-set}
 use lib.Seq.{take-all}
 use Rattle.laws.specs.Over.{overFrom}
 use Rattle.laws.proofs.Writing.{overFrom-none}
-use Rattle.sheet.specs.Numbers.{bigEndian}
-use Rattle.sheet.proofs.BigEndian.{byte-written, length-bigEndian}
-use Rattle.sheet.proofs.numbers.put_number.Statement.{statement}
-use Rattle.sheet.proofs.numbers.put_number.Tie as tie
+use Rattle.words.specs.Numbers.{bigEndian}
+use Rattle.words.proofs.BigEndian.{byte-written, length-bigEndian}
+use Rattle.words.proofs.numbers.put_number.Statement.{statement}
+use Rattle.words.proofs.numbers.put_number.Tie as tie
 
 abbrev Inv-loop : tie.InvT-loop
 Inv-loop width number at bytes₀ i₀ bytes i = (i ≤ width) × (bytes ≡ overFrom at (take i (bigEndian width number)) bytes₀) × (length bytes ≡ length bytes₀)
