@@ -24,7 +24,7 @@ use Rattle.words.proofs.BigEndian.{length-numbers, bytes-part}
 use Rattle.laws.specs.Bytes.{Bytes}
 use Rattle.laws.proofs.Bytes.{bytes-drop}
 use Rattle.words.proofs.Back.{bigEndian-numberAt, written-numbers}
-use Rattle.sheet.proofs.Reading.{Accepts, read-accepts, read-is, right-facts}
+use Rattle.sheet.proofs.Reading.{Clean, was-read, right-facts}
 
 same-true : (a b : List ℕ) → same a b ≡ true → a ≡ b
 unfolding same
@@ -79,20 +79,19 @@ sheet-back sheet n h long marked ok =
     rw (← right′) (bigEndian-numberAt (8 * n + 28) 4 sheet h (omega arith) ∙ take-all 4 (drop (8 * n + 28) sheet) (rw length-drop (omega arith))) in
     rw (front, word) (sym (take-append-drop (8 * n + 28) sheet))
 
-module _ (bytes : List ℕ) (h : Bytes bytes) (asked : Label) (room : ℕ) (a : Accepts bytes asked room) where
+module _ (bytes : List ℕ) (h : Bytes bytes) (asked : Label) (a : Clean bytes) (label : trailerOf bytes .label ≡ byteOf asked) where
   -- the trailer of what is accepted is the one that the writer makes
   trailer-made : trailerOf bytes ≡ trailerFor (trailerOf bytes .settings) asked (trailerOf bytes .count)
   unfolding trailerFor
   trailer-made =
-      let r = right-facts _ _ (a .right) in
-      let label : trailerOf bytes .label ≡ byteOf asked = eqb-true _ _ (a .labelled) in
+      let r = right-facts (a .right) in
       λ i. record { label = label i; settings = trailerOf bytes .settings; zeros = r .zeros i; count = trailerOf bytes .count; distance = r .distance i }
 
   accepted-made : sheetIn bytes ≡ sheetOf (trailerOf bytes .settings) asked (listIn bytes)
   unfolding sheetOf sheetIn listIn hasTrailer trailerBytes trailerOf numbersOf
   accepted-made =
       let t = trailerOf bytes in
-      let r = right-facts _ _ (a .right) in
+      let r = right-facts (a .right) in
       let halves = both-true (a .present) in
       let enough : 32 ≤ length bytes = leb-true _ _ (halves .0) in
       let sheet = drop (length bytes - 32 - t .distance) bytes in
@@ -111,9 +110,4 @@ module _ (bytes : List ℕ) (h : Bytes bytes) (asked : Label) (room : ℕ) (a : 
 -- settings, list and label fix every byte: what reads is what the writer writes for them
 pub canonical : (bytes : List ℕ) (asked : Label) (room : ℕ) {label count : ℕ} {settings : Settings} → Bytes bytes → readAnswer bytes asked room ≡ Read label settings count
     → sheetIn bytes ≡ sheetOf settings asked (listIn bytes)
-canonical bytes asked room h e =
-    let a = read-accepts bytes asked room e in
-    rw (same-settings (sym (read-is bytes asked room a) ∙ e)) at (accepted-made bytes h asked room a)
-  where
-    same-settings : {l m c d : ℕ} {s r : Settings} → Read l s c ≡ Read m r d → s ≡ r
-    same-settings p = cc
+canonical bytes asked room h e = let r = was-read bytes asked room e in rw (r .the-settings) (accepted-made bytes h asked (r .clean) (r .labelled))

@@ -32,7 +32,7 @@ use Rattle.words.proofs.BigEndian.{length-written, length-numbers}
 use Rattle.laws.specs.Bytes.{Bytes}
 use Rattle.words.proofs.Back.{Wide, numbers-written, written-numbers, drop-written, numberAt-written, numbers-wide, bytes-test, bytes-append, bytes-bigEndian, bytes-written}
 use Rattle.sheet.proofs.CheckWord.{checked-adds}
-use Rattle.sheet.proofs.Reading.{Accepts, read-accepts, right-facts}
+use Rattle.sheet.proofs.Reading.{Clean, was-read, right-facts}
 use Rattle.sheet.proofs.RoundTrip.{found}
 use Rattle.sheet.proofs.Promised.{writable, written-there, length-sheet}
 
@@ -88,12 +88,12 @@ module _ (before words : List ℕ) (count : ℕ) (size : length words ≡ 2 * co
 module _ (before words : List ℕ) (count : ℕ) (size : length words ≡ 2 * count + 8) (wide : Wide 4 words)
     (counted : getD words (2 * count + 5) 0 ≡ count) (distant : getD words (2 * count + 6) 0 ≡ 8 * count) (sum : total words % 2 ^ 32 ≡ 0)
     (k word : ℕ) (inside : k < length words) (fits : word < 2 ^ 32) where
-  not-accepted : (asked : Label) (room : ℕ) → Accepts (before ++ written 4 (set words k word)) asked room → word ≡ getD words k 0
-  not-accepted asked room a =
+  not-clean : Clean (before ++ written 4 (set words k word)) → word ≡ getD words k 0
+  not-clean a =
       let damaged = set words k word in
       let size′ : length damaged ≡ 2 * count + 8 = length-set words k word ∙ size in
       let wide′ = wide-set 4 words k word inside wide fits in
-      let right = right-facts _ _ (a .right) in
+      let right = right-facts (a .right) in
       let distance : getD damaged (2 * count + 6) 0 ≡ 8 * getD damaged (2 * count + 5) 0 =
       sym (the-distance before damaged count size′ wide′) ∙ right .distance ∙ ap (λ (n : ℕ). 8 * n) (the-count before damaged count size′ wide′) in
       let kept : getD damaged (2 * count + 6) 0 ≡ 8 * count =
@@ -149,7 +149,7 @@ sheet-words settings label list ok well few =
       wide = wide;
       counted = sym (the-count [] (numbersOf 4 sheet) n many wide) ∙ rw back (ap (λ (t : Trailer). t .count) (f .trailer));
       distant = sym (the-distance [] (numbersOf 4 sheet) n many wide) ∙ rw back (ap (λ (t : Trailer). t .distance) (f .trailer));
-      sum = adds [] (numbersOf 4 sheet) n many wide (rw back (ap (λ (t : Trailer). t .distance) (f .trailer))) (rw back (f .sound));
+      sum = adds [] (numbersOf 4 sheet) n many wide (rw back (ap (λ (t : Trailer). t .distance) (f .trailer))) (rw back (f .clean .sound));
     }
 
 -- a sheet with its k-th 32-bit word damaged, counted from 0 at the body's start
@@ -164,15 +164,15 @@ module _ (settings : Settings) (label : Label) (list bytes : List ℕ) {size : �
   damage-refused k word before asked room inside fits differs =
       go (readAnswer (before ++ damaged k word (take size (bytesAfter settings label list bytes))) asked room) refl
     where
-      not-read : Accepts (before ++ damaged k word (take size (bytesAfter settings label list bytes))) asked room → ⊥
+      not-read : Clean (before ++ damaged k word (take size (bytesAfter settings label list bytes))) → ⊥
       not-read a =
           let w = writable settings list (length bytes) wrote in
           let s = sheet-words settings label list (w .in-range) (w .well-formed) (w .few) in
           differs (rw (written-there settings label list bytes wrote)
-          (not-accepted before (numbersOf 4 (sheetOf settings label list)) (length list) (s .many) (s .wide) (s .counted) (s .distant) (s .sum) k word
-          (omega (arith, w .whole, s .many)) fits asked room (rw (written-there settings label list bytes wrote) at a)))
+          (not-clean before (numbersOf 4 (sheetOf settings label list)) (length list) (s .many) (s .wide) (s .counted) (s .distant) (s .sum) k word
+          (omega (arith, w .whole, s .many)) fits (rw (written-there settings label list bytes wrote) at a)))
 
       go : (r : Sheet) → readAnswer (before ++ damaged k word (take size (bytesAfter settings label list bytes))) asked room ≡ r
           → (why : Refusal) × (readAnswer (before ++ damaged k word (take size (bytesAfter settings label list bytes))) asked room ≡ Refused why)
       go (Refused why) e = (why, e)
-      go (Read l s c) e = absurd (not-read (read-accepts _ asked room e))
+      go (Read l s c) e = absurd (not-read (was-read _ asked room e .clean))

@@ -6,6 +6,7 @@ use lib.Dec.{leb, eqb}
 use lib.ListN.{length, take, drop}
 use Rattle.laws.specs.Over.{over}
 use Rattle.terms.specs.declared.Label.{Label}
+use Rattle.terms.specs.declared.Refusal.{Refusal}
 use Rattle.terms.specs.declared.Refusal.the-variants.{NoSheet, TrailerWrong, CheckWordWrong, ListNotWellFormed, OtherLabel, RoomTooShort}
 use Rattle.terms.specs.Answers.{unless}
 use Rattle.terms.specs.Labels.{byteOf}
@@ -43,17 +44,22 @@ hasList bytes =
     let settings = trailerOf bytes .settings in
     wellFormed (settings .minimum) (settings .maximum) (listIn bytes)
 
--- what reading into a list of room entries answers
+-- the rows that judge the bytes whatever is asked for: 12, 14, 13 and 10
+abbrev pub sheetRows {ℓ} : {A : Type ℓ} → List ℕ → (Refusal → A) → A → A
+sheetRows bytes wrong sound =
+    unless (hasTrailer bytes) (wrong NoSheet)
+    (unless (trailerRight (length bytes - 32) (trailerOf bytes)) (wrong TrailerWrong)
+    (unless (checked (sheetIn bytes)) (wrong CheckWordWrong)
+    (unless (hasList bytes) (wrong ListNotWellFormed) sound)))
+
+-- what reading into a list of room entries answers: those rows, then the label and the room
 unfoldable pub readAnswer : List ℕ → Label → (room : ℕ) → Sheet
 readAnswer bytes asked room =
     let t = trailerOf bytes in
-    unless (hasTrailer bytes) (Refused NoSheet)
-    (unless (trailerRight (length bytes - 32) t) (Refused TrailerWrong)
-    (unless (checked (sheetIn bytes)) (Refused CheckWordWrong)
-    (unless (hasList bytes) (Refused ListNotWellFormed)
+    sheetRows bytes Refused
     (unless (eqb (t .label) (byteOf asked)) (Refused OtherLabel)
     (unless (leb (t .count) room) (Refused RoomTooShort)
-    (Read (t .label) (t .settings) (t .count)))))))
+    (Read (t .label) (t .settings) (t .count))))
 
 -- what the lent list holds afterwards
 unfoldable pub listAfter : List ℕ → Label → List ℕ → List ℕ

@@ -1,20 +1,18 @@
 // The cut sheet: a list of cuts with its settings and label, written to bytes and read back.
 mod body;
 mod check;
+mod judging;
 mod trailer;
 
-use body::is_well_formed;
 use body::take_offsets;
 use check::check_word;
-use check::is_checked;
+use judging::Verdict;
+use judging::judge;
 use terms::Answer;
 use terms::Label;
 use terms::Refusal;
 use terms::Settings;
-use trailer::is_marked;
-use trailer::is_right;
 use trailer::put_fields;
-use trailer::trailer_in;
 use words::numbers::put_number;
 use words::numbers::put_numbers;
 ghost use mathlib.Core.Path.{_≡_};
@@ -76,28 +74,11 @@ pub fn read_sheet(bytes: &[u8], asked: Label, list: &mut [u64]) -> Sheet
     ensures { λ r. ⌜ r ≡ readAnswer (now (bytes .entry)) asked (length (now (list .entry))) ⌝ }
     ensures { λ _. ⌜ now (list .exit) ≡ listAfter (now (bytes .entry)) asked (now (list .entry)) ⌝ }
 {
-    if bytes.len() < 32 {
-        return Sheet::Refused(Refusal::NoSheet);
-    }
-    let at = bytes.len() - 32;
-    let last = &bytes[at..];
-    if !is_marked(last) {
-        return Sheet::Refused(Refusal::NoSheet);
-    }
-    let trailer = trailer_in(last);
-    if !is_right(at as u64, trailer) {
-        return Sheet::Refused(Refusal::TrailerWrong);
-    }
-    let distance = trailer.distance as usize;
-    let sheet = &bytes[at - distance..];
-    if !is_checked(sheet) {
-        return Sheet::Refused(Refusal::CheckWordWrong);
-    }
-    let settings = trailer.settings;
-    let body = &sheet[..distance];
-    if !is_well_formed(settings.minimum, settings.maximum, body) {
-        return Sheet::Refused(Refusal::ListNotWellFormed);
-    }
+    let verdict = judge(bytes);
+    let trailer = match verdict {
+        Verdict::Sound(trailer) => trailer,
+        Verdict::Wrong(why) => return Sheet::Refused(why),
+    };
     let label = trailer.label;
     let wanted = asked.byte();
     if label != wanted {
@@ -107,7 +88,10 @@ pub fn read_sheet(bytes: &[u8], asked: Label, list: &mut [u64]) -> Sheet
     if (list.len() as u64) < count {
         return Sheet::Refused(Refusal::RoomTooShort);
     }
-    take_offsets(body, list);
+    let at = bytes.len() - 32;
+    let start = at - trailer.distance as usize;
+    take_offsets(&bytes[start..at], list);
+    let settings = trailer.settings;
     Sheet::Read {
         label,
         settings,

@@ -7,10 +7,10 @@ use words::runs::put_bytes;
 use words::runs::same_bytes;
 ghost use mathlib.Core.Path.{_≡_};
 ghost use Prim.Native.Nat.{_+_, _*_, _≤_, _<_};
-ghost use lib.ListN.{length, take};
+ghost use lib.ListN.{length};
 ghost use Rattle.laws.specs.Over.{overFrom};
-ghost use Rattle.sheet.specs.Trailer.{mark, fields, trailerIn, trailerFor, isLabel, trailerRight};
-ghost use Rattle.words.specs.Runs.{same};
+ghost use Rattle.sheet.specs.Trailer.{fields, trailerIn, trailerFor, isLabel, trailerRight};
+ghost use Rattle.sheet.specs.Read.{hasTrailer};
 
 // The fields of a trailer, as they stand in its bytes.
 pub struct Trailer {
@@ -21,12 +21,15 @@ pub struct Trailer {
     pub distance: u64,
 }
 
-// Whether a trailer begins with the mark. It is inner: the caller sees that there are as many bytes.
-pub fn is_marked(trailer: &[u8]) -> bool
-    requires { ⌜ 4 ≤ length (now trailer) ⌝ }
-    ensures { λ r. ⌜ r ≡ same mark (take 4 (now (trailer .entry))) ⌝ }
+// Whether there is a trailer at the end of bytes, and it begins with the mark.
+pub fn has_trailer(bytes: &[u8]) -> bool
+    ensures { λ r. ⌜ r ≡ hasTrailer (now (bytes .entry)) ⌝ }
 {
-    same_bytes(b"CUTS", &trailer[..4])
+    if bytes.len() < 32 {
+        return false;
+    }
+    let at = bytes.len() - 32;
+    same_bytes(b"CUTS", &bytes[at..at + 4])
 }
 
 // The fields of a trailer. It is inner: the caller sees that there are 32 bytes.

@@ -40,18 +40,12 @@ list-right : (c : tie.Else2)
     → wellFormed (c .before .before .before .before .before .before .args .settings .minimum) (c .before .before .before .before .before .before .args .settings .maximum) (c .before .before .before .before .before .before .args .list .now) ≡ true
 list-right c = test-passed (c .before .well-formed .ensures) (c .if2 .left)
 
-in-range-requires : tie.Need-in-range-requires
-in-range-requires c κs = search needs
-
 returns : tie.Need-returns
 unfolding writeAnswer
 returns c =
     let e = c .before .before .before .before .args in
     let outside : inRange (e .settings) ≡ false = test-failed (c .before .in-range .ensures) (c .if1 .taken) in
     refused (e .settings) (e .label) (e .list .now) (e .bytes .now) (simp outside)
-
-well-formed-requires : tie.Need-well-formed-requires
-well-formed-requires c κs = search needs
 
 returns-2 : tie.Need-returns-2
 unfolding writeAnswer
@@ -73,12 +67,6 @@ returns-3 c =
       lt-leb _ _ (c .if3 .taken),
     ))
 
-mul-size : tie.Need-mul-size
-mul-size c = search needs
-
-add-size : tie.Need-add-size
-add-size c = search needs
-
 returns-4 : tie.Need-returns-4
 unfolding writeAnswer
 returns-4 c =
@@ -92,9 +80,6 @@ returns-4 c =
 
 put-sheet-requires : tie.Need-put-sheet-requires
 put-sheet-requires c κs = omega (arith, ranges _ (settings-right (c .before .before .before .before .before)) .few-bits)
-
-same-length : tie.Need-same-length
-same-length c = search needs
 
 returns-5 : tie.Need-returns-5
 unfolding writeAnswer
@@ -111,14 +96,14 @@ pub write-sheet-spec : {M : Type 1} → statement M
 write-sheet-spec =
     tie.close
     (tie.spec
-    in-range-requires
+    (λ c κs. search needs)
     returns
-    well-formed-requires
+    (λ c κs. search needs)
     returns-2
     returns-3
-    mul-size
-    add-size
+    (λ c. search needs)
+    (λ c. search needs)
     returns-4
     put-sheet-requires
-    same-length
+    (λ c. search needs)
     returns-5)

@@ -21,26 +21,8 @@ loop-holds : tie.Need-loop-holds Inv-loop μ-loop
 unfolding wellFormed
 loop-holds c = (search needs, refl)
 
-mul-number-at : tie.Need-mul-number-at Inv-loop μ-loop
-mul-number-at c = search needs
-
-number-at-requires : tie.Need-number-at-requires Inv-loop μ-loop
-number-at-requires c κs = search needs
-
-add-step-fits : tie.Need-add-step-fits Inv-loop μ-loop
-add-step-fits c = search needs
-
-step-fits-requires : tie.Need-step-fits-requires Inv-loop μ-loop
-step-fits-requires c κs = search needs
-
 returns : tie.Need-returns Inv-loop μ-loop
 returns c = sym (c .before .before .before .before .loop .inv .1 ∙ offset-refused _ _ _ _ _ (c .before .before .before .loop-test .taken) (c .before .before .number-at .ensures .0) (c .before .step-fits .ensures) (not-true _ (c .if1 .taken)))
-
-add-i : tie.Need-add-i Inv-loop μ-loop
-add-i c = search needs
-
-loop-less : tie.Need-loop-less Inv-loop μ-loop
-loop-less c = search needs
 
 loop-again : tie.Need-loop-again Inv-loop μ-loop
 loop-again c = (search needs, c .before .before .before .before .loop .inv .1 ∙ offset-passed _ _ _ _ _ (c .before .before .before .loop-test .taken) (c .before .before .number-at .ensures .0) (c .before .step-fits .ensures) (not-false _ (c .if1 .left)))
@@ -58,13 +40,13 @@ is-well-formed-spec =
     Inv-loop
     μ-loop
     loop-holds
-    mul-number-at
-    number-at-requires
-    add-step-fits
-    step-fits-requires
+    (λ c. search needs)
+    (λ c κs. search needs)
+    (λ c. search needs)
+    (λ c κs. search needs)
     returns
-    add-i
-    loop-less
+    (λ c. search needs)
+    (λ c. search needs)
     loop-again
     returns-2
     returns-3)

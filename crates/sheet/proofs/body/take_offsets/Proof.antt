@@ -21,33 +21,12 @@ loop-holds : tie.Need-loop-holds Inv-loop μ-loop
 unfolding numbers
 loop-holds c = (search needs, sym (over-none _), refl)
 
-mul-number-at : tie.Need-mul-number-at Inv-loop μ-loop
-mul-number-at c = search needs
-
-number-at-requires : tie.Need-number-at-requires Inv-loop μ-loop
-number-at-requires c κs = search needs
-
-mul-list : tie.Need-mul-list Inv-loop μ-loop
-mul-list c = search needs
-
-slice-write-list : tie.Need-slice-write-list Inv-loop μ-loop
-slice-write-list c = search needs
-
-add-i : tie.Need-add-i Inv-loop μ-loop
-add-i c = search needs
-
-loop-less : tie.Need-loop-less Inv-loop μ-loop
-loop-less c = search needs
-
 loop-again : tie.Need-loop-again Inv-loop μ-loop
 loop-again c = (
   search needs,
   rw (c .number-at .ensures .0, c .before .before .loop .inv .1) (offset-written 8 _ _ _ (omega arith)),
   rw length-set (c .before .before .loop .inv .2),
 )
-
-same-length : tie.Need-same-length Inv-loop μ-loop
-same-length c = search needs
 
 returns : tie.Need-returns Inv-loop μ-loop
 unfolding numbersOf
@@ -62,12 +41,12 @@ take-offsets-spec =
     Inv-loop
     μ-loop
     loop-holds
-    mul-number-at
-    number-at-requires
-    mul-list
-    slice-write-list
-    add-i
-    loop-less
+    (λ c. search needs)
+    (λ c κs. search needs)
+    (λ c. search needs)
+    (λ c. search needs)
+    (λ c. search needs)
+    (λ c. search needs)
     loop-again
-    same-length
+    (λ c. search needs)
     returns)

@@ -8,9 +8,6 @@ use Rattle.terms.specs.Settings.{inRange}
 use Rattle.sheet.proofs.trailer.is_right.Statement.{statement}
 use Rattle.sheet.proofs.trailer.is_right.Tie as tie
 
-is-label-requires : tie.Need-is-label-requires
-is-label-requires c κs = search needs
-
 label-right : (c : tie.Else1) → isLabel (c .before .before .args .trailer .label) ≡ true
 label-right c = sym (c .before .is-label .ensures) ∙ not-false _ (c .if1 .left)
 
@@ -22,9 +19,6 @@ unfolding trailerRight
 returns c =
     let other : isLabel (c .before .before .args .trailer .label) ≡ false = sym (c .before .is-label .ensures) ∙ not-true _ (c .if1 .taken) in
     simp other
-
-in-range-requires : tie.Need-in-range-requires
-in-range-requires c κs = search needs
 
 returns-2 : tie.Need-returns-2
 unfolding trailerRight
@@ -45,9 +39,6 @@ returns-4 c =
       eq-eqb _ _ (c .before .if3 .left),
       lt-leb _ _ (c .if4 .taken),
     )
-
-mul-if5 : tie.Need-mul-if5
-mul-if5 c = search needs
 
 returns-5 : tie.Need-returns-5
 unfolding trailerRight
@@ -88,13 +79,13 @@ pub is-right-spec : {M : Type 1} → statement M
 is-right-spec =
     tie.close
     (tie.spec
-    is-label-requires
+    (λ c κs. search needs)
     returns
-    in-range-requires
+    (λ c κs. search needs)
     returns-2
     returns-3
     returns-4
-    mul-if5
+    (λ c. search needs)
     returns-5
     returns-6
     returns-7)

@@ -26,23 +26,8 @@ byte-read c = rw (c .wide .ensures) (c .before .shared-slice-known2 .given _ .fi
 mul-number : tie.Need-mul-number Inv-loop μ-loop
 mul-number c = record { fits = within-64 (c .before .loop .i + 1) (omega arith) (omega (arith, byte-more (c .before .loop .i) (c .before .loop .inv .2) (lit< {m = 0} {n = 256} tt))) }
 
-add-wide : tie.Need-add-wide Inv-loop μ-loop
-add-wide c = search needs
-
-shared-slice-read-wide : tie.Need-shared-slice-read-wide Inv-loop μ-loop
-shared-slice-read-wide c = search needs
-
-wide-requires : tie.Need-wide-requires Inv-loop μ-loop
-wide-requires c κs = search needs
-
 add-number : tie.Need-add-number Inv-loop μ-loop
 add-number c = record { fits = within-64 (c .before .before .before .loop .i + 1) (omega arith) (byte-more (c .before .before .before .loop .i) (c .before .before .before .loop .inv .2) (byte-read c)) }
-
-add-i : tie.Need-add-i Inv-loop μ-loop
-add-i c = search needs
-
-loop-less : tie.Need-loop-less Inv-loop μ-loop
-loop-less c = search needs
 
 loop-again : tie.Need-loop-again Inv-loop μ-loop
 loop-again c = (
@@ -62,11 +47,11 @@ number-at-spec =
     μ-loop
     loop-holds
     mul-number
-    add-wide
-    shared-slice-read-wide
-    wide-requires
+    (λ c. search needs)
+    (λ c. search needs)
+    (λ c κs. search needs)
     add-number
-    add-i
-    loop-less
+    (λ c. search needs)
+    (λ c. search needs)
     loop-again
     returns)

@@ -21,42 +21,12 @@ abbrev μ-loop : tie.MeasureT-loop
 loop-holds : tie.Need-loop-holds Inv-loop μ-loop
 loop-holds c = (search needs, sym (overFrom-none _ _), refl)
 
-sub-shift : tie.Need-sub-shift Inv-loop μ-loop
-sub-shift c = search needs
-
-sub-shift-2 : tie.Need-sub-shift-2 Inv-loop μ-loop
-sub-shift-2 c = search needs
-
-mul-shift : tie.Need-mul-shift Inv-loop μ-loop
-mul-shift c = search needs
-
-shr-bytes : tie.Need-shr-bytes Inv-loop μ-loop
-shr-bytes c = search needs
-
-cast-bytes : tie.Need-cast-bytes Inv-loop μ-loop
-cast-bytes c = search needs
-
-add-bytes : tie.Need-add-bytes Inv-loop μ-loop
-add-bytes c = search needs
-
-slice-write-bytes : tie.Need-slice-write-bytes Inv-loop μ-loop
-slice-write-bytes c = search needs
-
-add-i : tie.Need-add-i Inv-loop μ-loop
-add-i c = search needs
-
-loop-less : tie.Need-loop-less Inv-loop μ-loop
-loop-less c = search needs
-
 loop-again : tie.Need-loop-again Inv-loop μ-loop
 loop-again c = (
   search needs,
   rw (c .before .loop .inv .1) (byte-written _ _ _ _ _ (c .loop-test .taken) (c .before .before .pre .1)),
   rw length-set (c .before .loop .inv .2),
 )
-
-same-length : tie.Need-same-length Inv-loop μ-loop
-same-length c = search needs
 
 returns : tie.Need-returns Inv-loop μ-loop
 returns c =
@@ -70,15 +40,15 @@ put-number-spec =
     Inv-loop
     μ-loop
     loop-holds
-    sub-shift
-    sub-shift-2
-    mul-shift
-    shr-bytes
-    cast-bytes
-    add-bytes
-    slice-write-bytes
-    add-i
-    loop-less
+    (λ c. search needs)
+    (λ c. search needs)
+    (λ c. search needs)
+    (λ c. search needs)
+    (λ c. search needs)
+    (λ c. search needs)
+    (λ c. search needs)
+    (λ c. search needs)
+    (λ c. search needs)
     loop-again
-    same-length
+    (λ c. search needs)
     returns)
