@@ -2,10 +2,10 @@
 -- makes the sum of all words other than zero.
 use mathlib.Core.Path.{_≡_, refl, sym, ap, _∙_}
 use mathlib.Core.Bool.{true}
-use mathlib.Core.List.{List, [], _∷_, _++_, append-nil}
+use mathlib.Core.List.{List, [], _∷_, _++_}
 use Prim.Native.Nat.{ℕ, zero, suc, _+_, _-_, _*_, _/_, _%_, _^_, _≤_, _<_}
 use native.Mathlib.Omega.{arith}
-use native.Mathlib.Nat.{mul-div-cancel-left, le-of-suc-le-suc, le-of-eq}
+use native.Mathlib.Nat.{le-of-suc-le-suc}
 use lib.Dec.{eqb, lit<}
 use lib.ListN.{length, take, drop, getD, set, length-append, length-set, length-drop}
 use lib.Seq.{drop-append-add, drop-append-seam, getD-drop, getD-set-same, getD-set-other}
@@ -28,12 +28,12 @@ use Rattle.sheet.specs.Trailer.{mostCuts, fields, trailerFor, trailerIn}
 use Rattle.sheet.specs.Sheets.{total, checkWord, checked, withCheck, sheetOf}
 use Rattle.sheet.specs.Write.{writeAnswer, bytesAfter}
 use Rattle.sheet.specs.Read.{trailerBytes, trailerOf, sheetIn, readAnswer}
-use Rattle.words.proofs.BigEndian.{length-written, length-numbers}
+use Rattle.words.proofs.BigEndian.{length-written}
 use Rattle.laws.specs.Bytes.{Bytes}
-use Rattle.words.proofs.Back.{Wide, numbers-written, written-numbers, drop-written, numberAt-written, numbers-wide, bytes-test, bytes-append, bytes-bigEndian, bytes-written}
+use Rattle.words.proofs.Back.{Wide, numbersOf-written, length-numbersOf, written-numbersOf, numbersOf-wide, drop-written, numberAt-written, bytes-test, bytes-append, bytes-bigEndian, bytes-written}
 use Rattle.sheet.proofs.CheckWord.{checked-adds}
 use Rattle.sheet.proofs.Reading.{Clean, was-read, right-facts}
-use Rattle.sheet.proofs.RoundTrip.{found}
+use Rattle.sheet.proofs.RoundTrip.{Found, found}
 use Rattle.sheet.proofs.Promised.{writable, written-there, length-sheet}
 
 -- a word exchanged for another moves the sum by their difference
@@ -75,14 +75,12 @@ module _ (before words : List ℕ) (count : ℕ) (size : length words ≡ 2 * co
 
   -- where its distance is that of its words, they add to zero
   adds : trailerOf (before ++ written 4 words) .distance ≡ 8 * count → checked (sheetIn (before ++ written 4 words)) ≡ true → total words % 2 ^ 32 ≡ 0
-  unfolding sheetIn numbersOf
+  unfolding sheetIn
   adds e ok =
       let place : length (before ++ written 4 words) - 32 - 8 * count ≡ length before = omega (arith, length-bytes) in
       let whole : sheetIn (before ++ written 4 words) ≡ written 4 words = rw (e, place) (drop-append-seam before (written 4 words)) in
-      let long : length (written 4 words) ≡ 4 * suc (2 * count + 7) = rw (length-written, size) (omega arith) in
-      let many : length (written 4 words) / 4 ≡ length words = rw length-written (mul-div-cancel-left (length words) {n = 4} (lit< tt)) in
-      let again : numbersOf 4 (written 4 words) ≡ words = rw many (rw append-nil at (numbers-written 4 words [] wide)) in
-      rw again at (checked-adds (written 4 words) (2 * count + 7) long (rw whole at ok))
+      rw (numbersOf-written 4 (lit< tt) words wide) at
+      (checked-adds (written 4 words) (2 * count + 7) (rw (length-written, size) (omega arith)) (rw whole at ok))
 
 -- one word exchanged for another is not accepted
 module _ (before words : List ℕ) (count : ℕ) (size : length words ≡ 2 * count + 8) (wide : Wide 4 words)
@@ -133,23 +131,22 @@ record Words (count : ℕ) (sheet : List ℕ) : Type 0 where
 
 sheet-words : (settings : Settings) (label : Label) (list : List ℕ) → inRange settings ≡ true → wellFormed (settings .minimum) (settings .maximum) list ≡ true → length list ≤ mostCuts
     → Words (length list) (sheetOf settings label list)
-unfolding numbersOf trailerFor
+unfolding trailerFor
 sheet-words settings label list ok well few =
     let sheet = sheetOf settings label list in
     let n = length list in
     let long : length sheet ≡ 4 * (2 * n + 8) = length-sheet settings label list ∙ omega arith in
-    let quarter : length sheet / 4 ≡ 2 * n + 8 = rw long (mul-div-cancel-left (2 * n + 8) {n = 4} (lit< tt)) in
-    let all-bytes = bytes-sheet settings label list ok in
-    let many : length (numbersOf 4 sheet) ≡ 2 * n + 8 = rw quarter (length-numbers 4 (2 * n + 8) sheet) in
-    let wide : Wide 4 (numbersOf 4 sheet) = rw quarter (numbers-wide 4 (2 * n + 8) sheet all-bytes (le-of-eq (sym long))) in
-    let back : written 4 (numbersOf 4 sheet) ≡ sheet = rw quarter (written-numbers 4 (2 * n + 8) sheet all-bytes long) in
-    let f = found settings label list [] ok well few in
+    let many = length-numbersOf 4 (lit< tt) (2 * n + 8) sheet long in
+    let wide = numbersOf-wide 4 (lit< tt) (2 * n + 8) sheet (bytes-sheet settings label list ok) long in
+    let back : written 4 (numbersOf 4 sheet) ≡ sheet = written-numbersOf 4 (lit< tt) (2 * n + 8) sheet (bytes-sheet settings label list ok) long in
+    let f : Found settings label list (written 4 (numbersOf 4 sheet)) = rw back (found settings label list [] ok well few) in
+    let distant = ap (λ (t : Trailer). t .distance) (f .trailer) in
     record {
       many = many;
       wide = wide;
-      counted = sym (the-count [] (numbersOf 4 sheet) n many wide) ∙ rw back (ap (λ (t : Trailer). t .count) (f .trailer));
-      distant = sym (the-distance [] (numbersOf 4 sheet) n many wide) ∙ rw back (ap (λ (t : Trailer). t .distance) (f .trailer));
-      sum = adds [] (numbersOf 4 sheet) n many wide (rw back (ap (λ (t : Trailer). t .distance) (f .trailer))) (rw back (f .clean .sound));
+      counted = sym (the-count [] (numbersOf 4 sheet) n many wide) ∙ ap (λ (t : Trailer). t .count) (f .trailer);
+      distant = sym (the-distance [] (numbersOf 4 sheet) n many wide) ∙ distant;
+      sum = adds [] (numbersOf 4 sheet) n many wide distant (f .clean .sound);
     }
 
 -- a sheet with its k-th 32-bit word damaged, counted from 0 at the body's start

@@ -59,9 +59,9 @@ module _ (bytes : List ℕ) where
       let four : length bytes - 32 + 4 - (length bytes - 32) ≡ 4 = omega arith in
       rw (le-leb 32 (length bytes) h) (rw four at e)
 
-  pub long-enough : hasTrailer bytes ≡ true → 32 ≤ length bytes
+  pub there : hasTrailer bytes ≡ true → (32 ≤ length bytes) × (same mark (take 4 (trailerBytes bytes)) ≡ true)
   unfolding hasTrailer
-  long-enough present = leb-true _ _ (both-true present .0)
+  there present = let halves = both-true present in (leb-true _ _ (halves .0), halves .1)
 
   pub trailer-is : {t : Trailer} → t ≡ trailerIn (take (length bytes - (length bytes - 32)) (drop (length bytes - 32) bytes)) → t ≡ trailerOf bytes
   unfolding trailerOf trailerBytes
@@ -112,7 +112,7 @@ pub handed : (bytes : List ℕ) {t : Trailer} → sheetRows bytes Wrong (Sound (
 handed bytes {t} e =
     let rows = rows-clean bytes never e in
     let same : t ≡ trailerOf bytes = same-trailer (rows .1) in
-    record { enough = long-enough bytes (rows .0 .present); trailer = same; right = rw same (right-facts (rows .0 .right)) }
+    record { enough = there bytes (rows .0 .present) .0; trailer = same; right = rw same (right-facts (rows .0 .right)) }
   where
     never : (why : Refusal) → Wrong why ≡ Sound t → ⊥
     never why p = let z : _≡_ {A = ℕ} 0 1 = cc in omega arith

@@ -1,10 +1,10 @@
 -- A sheet that is written reads again, with any bytes before it: the same label, settings and list.
 use mathlib.Core.Path.{_≡_, refl, sym, ap, _∙_}
 use mathlib.Core.Bool.{true}
-use mathlib.Core.List.{List, [], _++_, append-assoc, append-nil}
-use Prim.Native.Nat.{ℕ, _+_, _-_, _*_, _/_, _^_, _≤_, _<_}
+use mathlib.Core.List.{List, _++_, append-assoc}
+use Prim.Native.Nat.{ℕ, _+_, _-_, _*_, _^_, _≤_, _<_}
 use native.Mathlib.Omega.{arith}
-use native.Mathlib.Nat.{mod-eq-of-lt, mul-div-cancel-left}
+use native.Mathlib.Nat.{mod-eq-of-lt}
 use lib.Pow.{pow-mono}
 use lib.Dec.{leb, eqb, lit<}
 use lib.ListN.{length, length-append}
@@ -26,7 +26,7 @@ use Rattle.words.specs.Runs.{same}
 use Rattle.sheet.specs.Read.{trailerBytes, trailerOf, sheetIn, listIn, hasTrailer, hasList, readAnswer}
 use Rattle.words.proofs.BigEndian.{length-bigEndian, length-written, number-bigEndian}
 use Rattle.sheet.proofs.CheckWord.{checkWord-lt}
-use Rattle.words.proofs.Back.{Wide, numbers-written}
+use Rattle.words.proofs.Back.{Wide, numbersOf-written}
 use Rattle.sheet.specs.declared.Sheet.the-variants.{Read, Refused}
 use Rattle.terms.specs.declared.Refusal.the-variants.{OtherLabel, RoomTooShort}
 use Rattle.terms.specs.Answers.{unless}
@@ -49,19 +49,14 @@ trailer-back : (t : Trailer) (rest : List ℕ) → inRange (t .settings) ≡ tru
 unfolding trailerIn fields written numberAt bigEndian
 trailer-back t rest ok zeros count distance =
     let r = ranges (t .settings) ok in
-    let target = numberAt-back 4 (t .settings .target) (omega (arith, r .low-target, pow-mono {i = t .settings .bits} {j = 31} (r .few-bits))) in
-    let minimum = numberAt-back 4 (t .settings .minimum) (omega (arith, r .ordered, r .bounded)) in
-    let maximum = numberAt-back 4 (t .settings .maximum) (omega (arith, r .bounded)) in
-    let zero-bytes = numberAt-back 2 (t .zeros) zeros in
-    let cuts = numberAt-back 4 (t .count) (omega arith) in
-    let back = numberAt-back 4 (t .distance) (omega arith) in
-    λ i. record {
-      label = t .label;
-      settings = record { bits = t .settings .bits; target = target i; minimum = minimum i; maximum = maximum i };
-      zeros = zero-bytes i;
-      count = cuts i;
-      distance = back i;
-    }
+    simp (
+      numberAt-back 4 (t .settings .target) (omega (arith, r .low-target, pow-mono {i = t .settings .bits} {j = 31} (r .few-bits))),
+      numberAt-back 4 (t .settings .minimum) (omega (arith, r .ordered, r .bounded)),
+      numberAt-back 4 (t .settings .maximum) (omega (arith, r .bounded)),
+      numberAt-back 2 (t .zeros) zeros,
+      numberAt-back 4 (t .count) (omega arith),
+      numberAt-back 4 (t .distance) (omega arith),
+    )
 
 -- where the parts of a sheet stand, with any bytes before it
 module _ (before body front word : List ℕ) (has-fields : length front ≡ 28) (has-word : length word ≡ 4) where
@@ -114,13 +109,6 @@ unfolding trailerRight trailerFor
 right-for settings label count before ok few room =
     simp (label-known label, ok, le-leb count mostCuts few, eq-eqb (8 * count) (8 * count) refl, le-leb (8 * count) before room)
 
--- a list that is written is read again
-list-back : (list : List ℕ) → Wide 8 list → numbersOf 8 (written 8 list) ≡ list
-unfolding numbersOf
-list-back list wide =
-    let count : length (written 8 list) / 8 ≡ length list = rw length-written (mul-div-cancel-left (length list) (lit< tt)) in
-    rw (count) (rw append-nil at (numbers-written 8 list [] wide))
-
 -- what the reader finds in a written sheet, with any bytes before it
 pub record Found (settings : Settings) (label : Label) (list bytes : List ℕ) : Type 0 where
   pub clean : Clean bytes
@@ -142,7 +130,7 @@ module _ (settings : Settings) (label : Label) (list before : List ℕ)
       let distance : trailerOf bytes .distance ≡ length body = ap (λ (x : Trailer). x .distance) trailer ∙ sym (length-written 8 list) in
       let the-list : listIn bytes ≡ list =
       list-part before body (fields t) word (length-fields t) has-word distance
-      ∙ list-back list (entries-wide (settings .minimum) (settings .maximum) list well-formed) in
+      ∙ numbersOf-written 8 (lit< tt) list (entries-wide (settings .minimum) (settings .maximum) list well-formed) in
       let size : length bytes ≡ length before + 8 * length list + 32 =
       rw (length-append before (body ++ fields t ++ word), length-append (body ++ fields t) word, length-front, has-word) (omega arith) in
       let clean : Clean bytes =

@@ -11,7 +11,7 @@ use Rattle.sheet.specs.declared.judging.Verdict.the-variants.{Sound}
 use Rattle.sheet.specs.Trailer.{trailerRight}
 use Rattle.sheet.specs.Sheets.{checked}
 use Rattle.sheet.specs.Read.{trailerOf, sheetIn, hasTrailer, hasList}
-use Rattle.sheet.proofs.Reading.{Right, right-facts, long-enough, lent-long, trailer-is, sheet-is, list-is}
+use Rattle.sheet.proofs.Reading.{Right, right-facts, there, lent-long, trailer-is, sheet-is, list-is}
 use Rattle.sheet.proofs.judging.judge.Statement.{statement}
 use Rattle.sheet.proofs.judging.judge.Tie as tie
 
@@ -56,12 +56,12 @@ returns : tie.Need-returns
 returns c = simp (test-failed (c .before .has-trailer .ensures) (c .if1 .taken))
 
 sub-at : tie.Need-sub-at
-sub-at c = long-enough _ (present c)
+sub-at c = there _ (present c) .0
 
 trailer-in-requires : tie.Need-trailer-in-requires
 trailer-in-requires c κs =
     let bytes = bytes1 (c .before) in
-    lent-long bytes (length bytes - 32) 32 (omega (arith, long-enough bytes (present (c .before))))
+    lent-long bytes (length bytes - 32) 32 (omega (arith, there bytes (present (c .before)) .0))
 
 returns-2 : tie.Need-returns-2
 returns-2 c = simp (present (c .before .before .before .before), test-failed (right (c .before)) (c .if2 .taken))
@@ -73,7 +73,7 @@ is-checked-requires : tie.Need-is-checked-requires
 is-checked-requires c κs =
     let bytes = bytes2 (c .before) in
     lent-long bytes (length bytes - 32 - c .before .before .before .trailer-in .result .distance) 4
-    (omega (arith, long-enough bytes (present (c .before .before .before .before .before))))
+    (omega (arith, there bytes (present (c .before .before .before .before .before)) .0))
 
 returns-3 : tie.Need-returns-3
 returns-3 c =
