@@ -178,3 +178,10 @@ was-read bytes asked room {label} {count} {settings} e =
 
     same-settings : {l c : ℕ} {s : Settings} → Read l s c ≡ Read label settings count → settings ≡ s
     same-settings p = cc
+
+pub not-read : (bytes : List ℕ) (asked : Label) (room : ℕ) → (Clean bytes → ⊥) → (why : Refusal) × (readAnswer bytes asked room ≡ Refused why)
+not-read bytes asked room never = go (readAnswer bytes asked room) refl
+  where
+    go : (r : Sheet) → readAnswer bytes asked room ≡ r → (why : Refusal) × (readAnswer bytes asked room ≡ Refused why)
+    go (Refused why) e = (why, e)
+    go (Read label settings count) e = absurd (never (was-read bytes asked room e .clean))
