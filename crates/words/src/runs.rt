@@ -23,13 +23,9 @@ pub fn same_bytes(a: &[u8], b: &[u8]) -> bool
 }
 
 // Writes a run of bytes at a place. It is inner: the caller sees that there is room.
-pub fn put_bytes(part: &[u8], at: usize, bytes: &mut [u8])
-    requires { ⌜ at + length (now part) ≤ length (now bytes) ⌝ }
-    ensures { λ _. ⌜ now (bytes .exit) ≡ overFrom at (now (part .entry)) (now (bytes .entry)) ⌝ }
+pub fn put_bytes(part: &[u8], at: usize, dst: &mut [u8])
+    requires { ⌜ at + length (now part) ≤ length (now dst) ⌝ }
+    ensures { λ _. ⌜ now (dst .exit) ≡ overFrom at (now (part .entry)) (now (dst .entry)) ⌝ }
 {
-    let mut i = 0;
-    while i < part.len() {
-        bytes[at + i] = part[i];
-        i += 1;
-    }
+    bytes::copy(part, &mut dst[at..]);
 }

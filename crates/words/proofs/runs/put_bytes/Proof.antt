@@ -1,45 +1,28 @@
--- `words::runs::put_bytes` meets its contract. The invariant: the first bytes are written over what was there.
-use mathlib.Core.Path.{_≡_, refl, sym}
-use Prim.Native.Nat.{_-_, _≤_}
+-- `words::runs::put_bytes` meets its contract: what is copied over the part from the place on is written there.
+use mathlib.Core.Path.{_≡_}
+use mathlib.Core.List.{List, _++_, append-nil}
+use Prim.Native.Nat.{ℕ, _-_}
+use native.Mathlib.Nat.{le-refl}
 use borrow.Author.Needs.{needs}
-use lib.ListN.{length, take, length-set}
+use lib.ListN.{length, take, drop, length-drop, drop-of-length-le}
 use lib.Seq.{take-all}
-use Rattle.laws.specs.Over.{overFrom}
-use Rattle.laws.proofs.Writing.{overFrom-none, overFrom-next}
+use Rattle.laws.specs.Over.{over, overFrom}
 use Rattle.words.proofs.runs.put_bytes.Statement.{statement}
 use Rattle.words.proofs.runs.put_bytes.Tie as tie
 
-abbrev Inv-loop : tie.InvT-loop
-Inv-loop part at bytes₀ i₀ bytes i = (i ≤ length part) × (bytes ≡ overFrom at (take i part) bytes₀) × (length bytes ≡ length bytes₀)
+copied : (at : ℕ) (part dst : List ℕ) {new : List ℕ} → new ≡ take (length part) part ++ drop (length part) (take (length dst - at) (drop at dst))
+    → take at dst ++ (new ++ drop (length dst - at) (drop at dst)) ≡ overFrom at part dst
+unfolding over overFrom
+copied at part dst e =
+    let rest : take (length dst - at) (drop at dst) ≡ drop at dst = take-all (length dst - at) (drop at dst) (rw length-drop (le-refl _)) in
+    rw (e, take-all (length part) part (le-refl _), rest, drop-of-length-le (drop at dst) {i = length dst - at} (rw length-drop (le-refl _)), append-nil)
 
-abbrev μ-loop : tie.MeasureT-loop
-μ-loop part at bytes₀ i₀ bytes i = length part - i
-
-loop-holds : tie.Need-loop-holds Inv-loop μ-loop
-loop-holds c = (search needs, sym (overFrom-none _ _), refl)
-
-loop-again : tie.Need-loop-again Inv-loop μ-loop
-loop-again c = (
-  search needs,
-  rw (c .before .before .loop .inv .1) (overFrom-next _ _ _ _ (c .before .loop-test .taken) (c .before .before .before .pre)),
-  rw length-set (c .before .before .loop .inv .2),
-)
-
-returns : tie.Need-returns Inv-loop μ-loop
-returns c = rw (take-all _ _ (c .loop-test .left)) at (c .before .loop .inv .1)
+returns : tie.Need-returns
+returns c =
+    let start = c .before .before .before .before .before .before in
+    copied (start .args .at) (start .args .part .now) (start .args .dst .now) (c .before .before .copy .ensures .1)
 
 pub put-bytes-spec : {M : Type 1} → statement M
 put-bytes-spec =
     tie.close
-    (tie.spec
-    Inv-loop
-    μ-loop
-    loop-holds
-    (λ c. search needs)
-    (λ c. search needs)
-    (λ c. search needs)
-    (λ c. search needs)
-    (λ c. search needs)
-    loop-again
-    (λ c. search needs)
-    returns)
+    (tie.spec (λ c. search needs) (λ c. search needs) (λ c. search needs) (λ c κs. search needs) (λ c. search needs) returns)
