@@ -1,12 +1,12 @@
 -- The check word by wrapping sums.
-use mathlib.Core.Path.{_≡_, sym, _∙_}
+use mathlib.Core.Path.{_≡_, sym}
 use mathlib.Core.List.{List, [], _∷_, _++_}
 use Prim.Native.Nat.{ℕ, suc, _+_, _-_, _*_, _%_, _^_, _<_}
 use native.Mathlib.Omega.{arith}
 use native.Mathlib.Numerals.{add-one}
 use native.Mathlib.Nat.{add-zero, add-assoc, mod-add-mod}
-use mathlib.Core.Bool.{true, false}
-use borrow.Author.Tests.{eq-eqb, ne-eqb, eqb-true}
+use mathlib.Core.Bool.{true}
+use borrow.Author.Tests.{eqb-true}
 use lib.Dec.{lit<}
 use lib.ListN.{length, take}
 use Rattle.words.specs.Numbers.{numbers, numbersOf, numberAt}
@@ -32,17 +32,6 @@ check-is r words h e = omega arith
 pub checkWord-lt : (words : List ℕ) → checkWord words < 2 ^ 32
 unfolding checkWord
 checkWord-lt words = omega arith
-
--- the last word found is compared with the right one
-module _ (sheet : List ℕ) {found right : ℕ}
-    (is-found : found ≡ numberAt (length sheet - 4) 4 sheet) (is-right : right ≡ checkWord (numbersOf 4 (take (length sheet - 4) sheet))) where
-  pub checked-true : found ≡ right → checked sheet ≡ true
-  unfolding checked
-  checked-true e = eq-eqb _ _ (sym is-found ∙ e ∙ is-right)
-
-  pub checked-false : (found ≡ right → ⊥) → checked sheet ≡ false
-  unfolding checked
-  checked-false ne = ne-eqb _ _ (λ e. ne (is-found ∙ e ∙ sym is-right))
 
 -- the last word of a checked sheet is the check word of what stands before it
 pub checked-word : (sheet : List ℕ) (n : ℕ) → length sheet ≡ n + 4 → checked sheet ≡ true → numberAt n 4 sheet ≡ checkWord (numbersOf 4 (take n sheet))

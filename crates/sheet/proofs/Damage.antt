@@ -8,7 +8,7 @@ use native.Mathlib.Omega.{arith}
 use native.Mathlib.Nat.{le-of-suc-le-suc}
 use lib.Dec.{eqb, lit<}
 use lib.ListN.{length, take, drop, getD, set, length-append, length-set, length-drop}
-use lib.Seq.{drop-append-add, drop-append-seam, getD-drop, getD-set-same, getD-set-other}
+use lib.Seq.{drop-append-add, getD-drop, getD-set-same, getD-set-other}
 use borrow.Author.Tests.{eqb-true, eqb-false, lt-ltb}
 use Rattle.laws.proofs.Cases.{by-test}
 use Rattle.terms.specs.declared.Settings.{Settings}
@@ -26,11 +26,12 @@ use Rattle.words.specs.Numbers.{bigEndian, written, numbersOf, numberAt}
 use Rattle.sheet.specs.Trailer.{mostCuts, fields, trailerFor, trailerIn}
 use Rattle.sheet.specs.Sheets.{total, checkWord, withCheck, sheetOf}
 use Rattle.sheet.specs.Write.{writeAnswer, bytesAfter}
-use Rattle.sheet.specs.Read.{trailerBytes, trailerOf, sheetIn, readAnswer}
+use Rattle.sheet.specs.Read.{trailerBytes, trailerOf, readAnswer}
 use Rattle.words.proofs.BigEndian.{length-written}
 use Rattle.laws.specs.Bytes.{Bytes}
 use Rattle.words.proofs.Back.{Wide, numbersOf-written, length-numbersOf, written-numbersOf, numbersOf-wide, drop-written, numberAt-written, bytes-test, bytes-append, bytes-bigEndian, bytes-written}
 use Rattle.sheet.proofs.CheckWord.{checked-adds}
+use Rattle.sheet.proofs.Parts.{sheet-at}
 use Rattle.sheet.proofs.Reading.{Clean, not-read, right-facts}
 use Rattle.sheet.proofs.RoundTrip.{Found, found}
 use Rattle.sheet.proofs.Promised.{writable, written-there, length-sheet}
@@ -74,12 +75,10 @@ module _ (before words : List ℕ) (count : ℕ) (size : length words ≡ 2 * co
     tied = sym the-distance ∙ right-facts (clean .right) .distance ∙ ap (λ (n : ℕ). 8 * n) the-count
 
     adds : getD words (2 * count + 6) 0 ≡ 8 * count → total words % 2 ^ 32 ≡ 0
-    unfolding sheetIn
     adds e =
-        let place : length (before ++ written 4 words) - 32 - 8 * count ≡ length before = omega (arith, length-bytes) in
-        let whole : sheetIn (before ++ written 4 words) ≡ written 4 words = rw (the-distance ∙ e, place) (drop-append-seam before (written 4 words)) in
+        let long : length (written 4 words) ≡ 8 * count + 32 = rw (length-written, size) (omega arith) in
         rw (numbersOf-written 4 (lit< tt) words wide) at
-        (checked-adds (written 4 words) (2 * count + 7) (rw (length-written, size) (omega arith)) (rw whole at (clean .sound)))
+        (checked-adds (written 4 words) (2 * count + 7) (omega arith) (rw (sheet-at before (written 4 words) (8 * count) long (the-distance ∙ e)) at (clean .sound)))
 
 -- the words of a sheet as it is written
 record Words (count : ℕ) (words : List ℕ) : Type 0 where

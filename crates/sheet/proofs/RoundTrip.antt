@@ -1,5 +1,5 @@
 -- A sheet that is written reads again, with any bytes before it: the same label, settings and list.
-use mathlib.Core.Path.{_≡_, refl, sym, ap, _∙_}
+use mathlib.Core.Path.{_≡_, refl, ap, _∙_}
 use mathlib.Core.Bool.{true}
 use mathlib.Core.List.{List, _++_, append-assoc}
 use Prim.Native.Nat.{ℕ, _+_, _-_, _*_, _^_, _≤_, _<_}
@@ -7,8 +7,8 @@ use native.Mathlib.Omega.{arith}
 use native.Mathlib.Nat.{mod-eq-of-lt}
 use lib.Pow.{pow-mono}
 use lib.Dec.{leb, eqb, lit<}
-use lib.ListN.{length, length-append}
-use lib.Seq.{take-append-seam, drop-append-seam, take-all}
+use lib.ListN.{length, length-append, take}
+use lib.Seq.{take-append-seam, drop-append-seam, take-all, take-at}
 use borrow.Author.Tests.{eq-eqb, le-leb}
 use Rattle.terms.specs.declared.Settings.{Settings}
 use Rattle.terms.specs.declared.Label.{Label}
@@ -31,7 +31,7 @@ use Rattle.sheet.specs.declared.Sheet.the-variants.{Read, Refused}
 use Rattle.terms.specs.declared.Refusal.the-variants.{OtherLabel, RoomTooShort}
 use Rattle.terms.specs.Answers.{unless}
 use Rattle.sheet.proofs.Reading.{Clean, clean-rows}
-use Rattle.sheet.proofs.Parts.{length-fields, length-front}
+use Rattle.sheet.proofs.Parts.{length-fields, length-front, trailer-at, sheet-at}
 
 -- the entries of a well-formed list are 8 bytes wide
 entries-wide : (minimum maximum : ℕ) (list : List ℕ) → wellFormed minimum maximum list ≡ true → Wide 8 list
@@ -57,27 +57,6 @@ trailer-back t rest ok zeros count distance =
       numberAt-back 4 (t .count) (omega arith),
       numberAt-back 4 (t .distance) (omega arith),
     )
-
--- where the parts of a sheet stand, with any bytes before it
-module _ (before body front word : List ℕ) (has-fields : length front ≡ 28) (has-word : length word ≡ 4) where
-  trailer-part : trailerBytes (before ++ (body ++ front ++ word)) ≡ front ++ word
-  unfolding trailerBytes
-  trailer-part =
-      let regroup : before ++ (body ++ front ++ word) ≡ before ++ body ++ (front ++ word) = simp append-assoc in
-      let place : length (before ++ body ++ (front ++ word)) - 32 ≡ length (before ++ body) =
-      rw (length-append (before ++ body) (front ++ word), length-append front word, has-fields, has-word) (omega arith) in
-      rw (regroup, place) (drop-append-seam (before ++ body) (front ++ word))
-
-  sheet-part : trailerOf (before ++ (body ++ front ++ word)) .distance ≡ length body → sheetIn (before ++ (body ++ front ++ word)) ≡ body ++ front ++ word
-  unfolding sheetIn
-  sheet-part e =
-      let place : length (before ++ (body ++ front ++ word)) - 32 - length body ≡ length before =
-      rw (length-append before (body ++ front ++ word), length-append (body ++ front) word, length-append body front, has-fields, has-word) (omega arith) in
-      rw (e, place) (drop-append-seam before (body ++ front ++ word))
-
-  list-part : trailerOf (before ++ (body ++ front ++ word)) .distance ≡ length body → listIn (before ++ (body ++ front ++ word)) ≡ numbersOf 8 body
-  unfolding listIn
-  list-part e = rw (sheet-part e, e, append-assoc, take-append-seam body (front ++ word))
 
 numberAt-end : (l w : List ℕ) → length w ≤ 4 → numberAt (length l) 4 (l ++ w) ≡ number w
 unfolding numberAt
@@ -118,26 +97,30 @@ pub record Found (settings : Settings) (label : Label) (list bytes : List ℕ) :
 module _ (settings : Settings) (label : Label) (list before : List ℕ)
     (in-range : inRange settings ≡ true) (well-formed : wellFormed (settings .minimum) (settings .maximum) list ≡ true) (few : length list ≤ mostCuts) where
   pub found : Found settings label list (before ++ sheetOf settings label list)
-  unfolding sheetOf withCheck trailerOf trailerFor hasList
+  unfolding sheetOf withCheck trailerOf trailerFor listIn hasList
   found =
       let t = trailerFor settings label (length list) in
       let body = written 8 list in
       let word = bigEndian 4 (checkWord (numbersOf 4 (body ++ fields t))) in
-      let bytes = before ++ (body ++ fields t ++ word) in
+      let sheet = body ++ fields t ++ word in
+      let bytes = before ++ sheet in
       let has-word : length word ≡ 4 = length-bigEndian 4 (checkWord (numbersOf 4 (body ++ fields t))) in
-      let part : trailerBytes bytes ≡ fields t ++ word = trailer-part before body (fields t) word (length-fields t) has-word in
+      let size : length sheet ≡ 8 * length list + 32 = rw (length-append (body ++ fields t) word, length-front, has-word) (omega arith) in
+      let room : length bytes ≡ length before + 8 * length list + 32 = rw (length-append, size) (omega arith) in
+      let regroup : bytes ≡ before ++ body ++ (fields t ++ word) = simp append-assoc in
+      let part : trailerBytes bytes ≡ fields t ++ word = rw regroup (trailer-at (before ++ body) (fields t ++ word) (rw (length-append, length-fields, has-word))) in
       let trailer : trailerOf bytes ≡ t = rw part (trailer-back t word in-range (lit< tt) few (omega arith)) in
-      let distance : trailerOf bytes .distance ≡ length body = ap (λ (x : Trailer). x .distance) trailer ∙ sym (length-written 8 list) in
+      let distance : trailerOf bytes .distance ≡ 8 * length list = ap (λ (x : Trailer). x .distance) trailer in
+      let whole : sheetIn bytes ≡ sheet = sheet-at before sheet (8 * length list) size distance in
+      let first : take (8 * length list) sheet ≡ body =
+      rw (append-assoc body (fields t) word) (take-at body (fields t ++ word) (8 * length list) (length-written 8 list)) in
       let the-list : listIn bytes ≡ list =
-      list-part before body (fields t) word (length-fields t) has-word distance
-      ∙ numbersOf-written 8 (lit< tt) list (entries-wide (settings .minimum) (settings .maximum) list well-formed) in
-      let size : length bytes ≡ length before + 8 * length list + 32 =
-      rw (length-append before (body ++ fields t ++ word), length-append (body ++ fields t) word, length-front, has-word) (omega arith) in
+      rw (whole, distance, first) (numbersOf-written 8 (lit< tt) list (entries-wide (settings .minimum) (settings .maximum) list well-formed)) in
       let clean : Clean bytes =
       record {
-        present = present-for bytes word t (omega (arith, size)) part;
-        right = rw trailer (right-for settings label (length list) (length bytes - 32) in-range few (omega (arith, size)));
-        sound = rw (sheet-part before body (fields t) word (length-fields t) has-word distance) (checked-with (body ++ fields t));
+        present = present-for bytes word t (omega (arith, room)) part;
+        right = rw trailer (right-for settings label (length list) (length bytes - 32) in-range few (omega (arith, room)));
+        sound = rw whole (checked-with (body ++ fields t));
         listed = rw (the-list, trailer) well-formed;
       } in
       record { clean = clean; trailer = trailer; the-list = the-list }

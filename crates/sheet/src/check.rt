@@ -28,8 +28,5 @@ pub fn is_checked(sheet: &[u8]) -> bool
     let before = sheet.len() - 4;
     let found = number_at(4, before, sheet);
     let right = check_word(&sheet[..before]) as u64;
-    if found != right {
-        return false;
-    }
-    true
+    found == right
 }

@@ -3,7 +3,7 @@ use mathlib.Core.Path.{sym}
 use lib.Seq.{length-take-le}
 use native.Mathlib.Omega.{arith}
 use borrow.Author.Needs.{needs}
-use Rattle.sheet.proofs.CheckWord.{checked-true, checked-false}
+use Rattle.sheet.specs.Sheets.{checked}
 use Rattle.sheet.proofs.check.is_checked.Statement.{statement}
 use Rattle.sheet.proofs.check.is_checked.Tie as tie
 
@@ -11,10 +11,8 @@ slice-aggregate-check-word : tie.Need-slice-aggregate-check-word
 slice-aggregate-check-word c = sym (length-take-le _ _ (omega arith))
 
 returns : tie.Need-returns
-returns c = sym (checked-false _ (c .before .before .before .number-at .ensures .0) (c .before .check-word .ensures) (c .if1 .taken))
-
-returns-2 : tie.Need-returns-2
-returns-2 c = sym (checked-true _ (c .before .before .before .number-at .ensures .0) (c .before .check-word .ensures) (c .if1 .left))
+unfolding checked
+returns c = rw (← (c .before .before .number-at .ensures .0), ← (c .check-word .ensures))
 
 pub is-checked-spec : {M : Type 1} → statement M
 is-checked-spec =
@@ -25,5 +23,4 @@ is-checked-spec =
     slice-aggregate-check-word
     (λ c κs. search needs)
     (λ c. search needs)
-    returns
-    returns-2)
+    returns)
