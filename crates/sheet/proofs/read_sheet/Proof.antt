@@ -54,19 +54,5 @@ returns-4 c =
 pub read-sheet-spec : {M : Type 1} → statement M
 read-sheet-spec =
     tie.close
-    (tie.spec
-    (λ c κs. search needs)
-    (λ c. search needs)
-    (λ c. search needs)
-    returns
-    (λ c κs. search needs)
-    returns-2
-    returns-3
-    sub-at
-    sub-start
-    (λ c. search needs)
-    (λ c. search needs)
-    (λ c. search needs)
-    take-offsets-requires
-    (λ c. search needs)
-    returns-4)
+    (tie.spec (λ c κs. search needs) (λ c. search needs) (λ c. search needs) returns (λ c κs. search needs) returns-2 returns-3 sub-at
+    sub-start (λ c. search needs) (λ c. search needs) (λ c. search needs) take-offsets-requires (λ c. search needs) returns-4)

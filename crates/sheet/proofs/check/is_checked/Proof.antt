@@ -17,10 +17,4 @@ returns c = rw (← (c .before .before .number-at .ensures .0), ← (c .check-wo
 pub is-checked-spec : {M : Type 1} → statement M
 is-checked-spec =
     tie.close
-    (tie.spec
-    (λ c. search needs)
-    (λ c κs. search needs)
-    slice-aggregate-check-word
-    (λ c κs. search needs)
-    (λ c. search needs)
-    returns)
+    (tie.spec (λ c. search needs) (λ c κs. search needs) slice-aggregate-check-word (λ c κs. search needs) (λ c. search needs) returns)

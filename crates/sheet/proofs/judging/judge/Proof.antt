@@ -93,25 +93,6 @@ returns-5 c =
 pub judge-spec : {M : Type 1} → statement M
 judge-spec =
     tie.close
-    (tie.spec
-    (λ c κs. search needs)
-    returns
-    sub-at
-    (λ c. search needs)
-    (λ c. search needs)
-    (λ c. search needs)
-    trailer-in-requires
-    (λ c κs. search needs)
-    returns-2
-    sub-start
-    (λ c. search needs)
-    (λ c. search needs)
-    (λ c. search needs)
-    is-checked-requires
-    returns-3
-    (λ c. search needs)
-    (λ c. search needs)
-    (λ c. search needs)
-    (λ c κs. search needs)
-    returns-4
-    returns-5)
+    (tie.spec (λ c κs. search needs) returns sub-at (λ c. search needs) (λ c. search needs) (λ c. search needs) trailer-in-requires
+    (λ c κs. search needs) returns-2 sub-start (λ c. search needs) (λ c. search needs) (λ c. search needs) is-checked-requires returns-3
+    (λ c. search needs) (λ c. search needs) (λ c. search needs) (λ c κs. search needs) returns-4 returns-5)

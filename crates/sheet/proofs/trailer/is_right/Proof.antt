@@ -58,14 +58,4 @@ returns-7 c =
 pub is-right-spec : {M : Type 1} → statement M
 is-right-spec =
     tie.close
-    (tie.spec
-    (λ c κs. search needs)
-    returns
-    (λ c κs. search needs)
-    returns-2
-    returns-3
-    returns-4
-    (λ c. search needs)
-    returns-5
-    returns-6
-    returns-7)
+    (tie.spec (λ c κs. search needs) returns (λ c κs. search needs) returns-2 returns-3 returns-4 (λ c. search needs) returns-5 returns-6 returns-7)

@@ -23,15 +23,5 @@ returns c =
 pub trailer-in-spec : {M : Type 1} → statement M
 trailer-in-spec =
     tie.close
-    (tie.spec
-    (λ c. search needs)
-    cast-bits
-    (λ c κs. search needs)
-    (λ c. search needs)
-    (λ c κs. search needs)
-    (λ c κs. search needs)
-    (λ c. search needs)
-    (λ c κs. search needs)
-    (λ c κs. search needs)
-    (λ c κs. search needs)
-    returns)
+    (tie.spec (λ c. search needs) cast-bits (λ c κs. search needs) (λ c. search needs) (λ c κs. search needs) (λ c κs. search needs)
+    (λ c. search needs) (λ c κs. search needs) (λ c κs. search needs) (λ c κs. search needs) returns)

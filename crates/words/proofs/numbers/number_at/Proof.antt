@@ -42,16 +42,5 @@ returns c = let e : c .before .loop .i ≡ c .before .before .before .args .widt
 pub number-at-spec : {M : Type 1} → statement M
 number-at-spec =
     tie.close
-    (tie.spec
-    Inv-loop
-    μ-loop
-    loop-holds
-    mul-number
-    (λ c. search needs)
-    (λ c. search needs)
-    (λ c κs. search needs)
-    add-number
-    (λ c. search needs)
-    (λ c. search needs)
-    loop-again
-    returns)
+    (tie.spec Inv-loop μ-loop loop-holds mul-number (λ c. search needs) (λ c. search needs) (λ c κs. search needs) add-number
+    (λ c. search needs) (λ c. search needs) loop-again returns)

@@ -49,16 +49,5 @@ returns c = rw (take-all _ _ (c .loop-test .left)) at (c .before .loop .inv .2)
 pub put-numbers-spec : {M : Type 1} → statement M
 put-numbers-spec =
     tie.close
-    (tie.spec
-    Inv-loop
-    μ-loop
-    loop-holds
-    (λ c. search needs)
-    (λ c. search needs)
-    put-number-requires
-    add-place
-    (λ c. search needs)
-    (λ c. search needs)
-    loop-again
-    (λ c. search needs)
-    returns)
+    (tie.spec Inv-loop μ-loop loop-holds (λ c. search needs) (λ c. search needs) put-number-requires add-place (λ c. search needs)
+    (λ c. search needs) loop-again (λ c. search needs) returns)
