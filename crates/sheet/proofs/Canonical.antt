@@ -24,7 +24,8 @@ use Rattle.sheet.proofs.CheckWord.{checked-word}
 use Rattle.laws.specs.Bytes.{Bytes}
 use Rattle.laws.proofs.Bytes.{bytes-drop}
 use Rattle.words.proofs.Back.{bigEndian-numberAt, written-numbersOf, length-numbersOf}
-use Rattle.sheet.proofs.Reading.{Clean, was-read, right-facts, there}
+use Rattle.sheet.proofs.Lent.{right-facts, there}
+use Rattle.sheet.proofs.Reading.{Clean, was-read}
 
 same-true : (a b : List ℕ) → same a b ≡ true → a ≡ b
 unfolding same

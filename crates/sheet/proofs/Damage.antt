@@ -32,7 +32,8 @@ use Rattle.laws.specs.Bytes.{Bytes}
 use Rattle.words.proofs.Back.{Wide, numbersOf-written, length-numbersOf, written-numbersOf, numbersOf-wide, drop-written, numberAt-written, bytes-test, bytes-append, bytes-bigEndian, bytes-written}
 use Rattle.sheet.proofs.CheckWord.{checked-adds}
 use Rattle.sheet.proofs.Parts.{sheet-at}
-use Rattle.sheet.proofs.Reading.{Clean, not-read, right-facts}
+use Rattle.sheet.proofs.Lent.{right-facts}
+use Rattle.sheet.proofs.Reading.{Clean, not-read}
 use Rattle.sheet.proofs.RoundTrip.{Found, found}
 use Rattle.sheet.proofs.Promised.{writable, written-there, length-sheet}
 

@@ -1,6 +1,7 @@
 pub mod CheckWord
 pub mod Offsets
 pub mod Parts
+pub mod Lent
 pub mod Reading
 pub mod RoundTrip
 pub mod Promised

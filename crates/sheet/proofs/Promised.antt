@@ -14,7 +14,6 @@ use Rattle.terms.specs.declared.Settings.{Settings}
 use Rattle.terms.specs.declared.Label.{Label}
 use Rattle.terms.specs.declared.Label.the-variants.{Live}
 use Rattle.terms.specs.declared.Answer.the-variants as answer
-use Rattle.terms.specs.declared.Refusal.{Refusal}
 use Rattle.terms.specs.declared.Refusal.the-variants.{SettingsOutOfRange, ListNotWellFormed, TooManyCuts, RoomTooShort, OtherLabel}
 use Rattle.terms.specs.Labels.{byteOf}
 use Rattle.terms.specs.Settings.{inRange}
@@ -42,17 +41,14 @@ pub record Writable (settings : Settings) (list : List ℕ) (room size : ℕ) : 
 pub writable : (settings : Settings) (list : List ℕ) (room : ℕ) {size : ℕ} → writeAnswer settings list room ≡ answer.Wrote size → Writable settings list room size
 unfolding writeAnswer
 writable settings list room {size} e =
-    let r = past-row (inRange settings) e (never SettingsOutOfRange) in
-    let w = past-row (wellFormed (settings .minimum) (settings .maximum) list) (r .1) (never ListNotWellFormed) in
-    let f = past-row (leb (length list) mostCuts) (w .1) (never TooManyCuts) in
-    let m = past-row (leb (8 * length list + 32) room) (f .1) (never RoomTooShort) in
+    let r = past-row (inRange settings) SettingsOutOfRange _ e in
+    let w = past-row (wellFormed (settings .minimum) (settings .maximum) list) ListNotWellFormed _ (r .1) in
+    let f = past-row (leb (length list) mostCuts) TooManyCuts _ (w .1) in
+    let m = past-row (leb (8 * length list + 32) room) RoomTooShort _ (f .1) in
     record { in-range = r .0; well-formed = w .0; few = leb-true _ _ (f .0); roomy = leb-true _ _ (m .0); whole = same-size (m .1) }
   where
     same-size : {a b : ℕ} → answer.Wrote a ≡ answer.Wrote b → b ≡ a
     same-size p = cc
-
-    never : (why : Refusal) → answer.Refused why ≡ answer.Wrote size → ⊥
-    never why p = let z : _≡_ {A = ℕ} 0 1 = cc in omega arith
 
 pub length-sheet : (settings : Settings) (label : Label) (list : List ℕ) → length (sheetOf settings label list) ≡ 8 * length list + 32
 unfolding sheetOf withCheck

@@ -1,15 +1,12 @@
--- Reading a sheet: the parts that code lends are those of the definition, and what an answer says of the bytes and leaves in the list.
-use mathlib.Core.Path.{_≡_, refl, sym, _∙_}
+-- Reading a sheet: what the rows that passed say of the bytes, and what an answer says of them and leaves in the list.
+use mathlib.Core.Path.{_≡_, refl, sym}
 use mathlib.Core.Bool.{Bool, true, false}
 use mathlib.Core.List.{List}
-use Prim.Native.Nat.{ℕ, _+_, _-_, _*_, _/_, _≤_}
-use native.Mathlib.Nat.{le-refl}
+use Prim.Native.Nat.{ℕ, _-_, _≤_}
 use native.Mathlib.Omega.{arith}
 use lib.Dec.{leb, eqb}
-use lib.ListN.{length, take, drop, length-drop}
-use lib.Seq.{take-all, length-take-le}
-use borrow.Author.Tests.{le-leb, leb-true, eqb-true}
-use Rattle.laws.proofs.Cases.{both-true}
+use lib.ListN.{length}
+use borrow.Author.Tests.{eqb-true}
 use Rattle.laws.specs.Over.{over}
 use Rattle.terms.specs.declared.Settings.{Settings}
 use Rattle.terms.specs.declared.Label.{Label}
@@ -17,71 +14,17 @@ use Rattle.terms.specs.declared.Refusal.{Refusal}
 use Rattle.terms.specs.declared.Refusal.the-variants.{NoSheet, TrailerWrong, CheckWordWrong, ListNotWellFormed, OtherLabel, RoomTooShort}
 use Rattle.terms.specs.Answers.{unless}
 use Rattle.terms.specs.Labels.{byteOf}
-use Rattle.terms.specs.Settings.{inRange}
-use Rattle.terms.proofs.Rows.{past-row}
-use Rattle.words.specs.Numbers.{numbersOf}
+use Rattle.terms.proofs.Rows.{past-test}
 use Rattle.words.specs.Runs.{same}
 use Rattle.sheet.specs.declared.trailer.Trailer.{Trailer}
 use Rattle.sheet.specs.declared.judging.Verdict.{Verdict}
 use Rattle.sheet.specs.declared.judging.Verdict.the-variants.{Sound, Wrong}
 use Rattle.sheet.specs.declared.Sheet.{Sheet}
 use Rattle.sheet.specs.declared.Sheet.the-variants.{Read, Refused}
-use Rattle.sheet.specs.Trailer.{mark, mostCuts, isLabel, trailerIn, trailerRight}
+use Rattle.sheet.proofs.Lent.{Right, right-facts, there}
+use Rattle.sheet.specs.Trailer.{trailerRight}
 use Rattle.sheet.specs.Sheets.{checked}
-use Rattle.sheet.specs.Read.{trailerBytes, trailerOf, sheetIn, listIn, hasTrailer, hasList, sheetRows, readAnswer, listAfter}
-
-pub record Right (before : ℕ) (t : Trailer) : Type 0 where
-  pub zeros : t .zeros ≡ 0
-  pub distance : t .distance ≡ 8 * t .count
-  pub body : t .distance ≤ before
-
-pub right-facts : {before : ℕ} {t : Trailer} → trailerRight before t ≡ true → Right before t
-unfolding trailerRight
-right-facts {t = t} ok =
-    let a = both-true {a = isLabel (t .label)} ok in
-    let b = both-true {a = inRange (t .settings)} (a .1) in
-    let c = both-true (b .1) in
-    let d = both-true {a = leb (t .count) mostCuts} (c .1) in
-    let e = both-true (d .1) in
-    record { zeros = eqb-true _ _ (c .0); distance = eqb-true _ _ (e .0); body = leb-true _ _ (e .1) }
-
-module _ (bytes : List ℕ) where
-  -- bytes from a place on, as they are lent
-  lent-is : (k : ℕ) → take (length bytes - k) (drop k bytes) ≡ drop k bytes
-  lent-is k = take-all (length bytes - k) (drop k bytes) (rw length-drop (le-refl _))
-
-  pub lent-long : (k n : ℕ) → k + n ≤ length bytes → n ≤ length (take (length bytes - k) (drop k bytes))
-  lent-long k n h = rw (lent-is k, length-drop) (omega arith)
-
-  pub marked-is : {r : Bool} → 32 ≤ length bytes → r ≡ same mark (take (length bytes - 32 + 4 - (length bytes - 32)) (drop (length bytes - 32) bytes)) → r ≡ hasTrailer bytes
-  unfolding hasTrailer trailerBytes
-  marked-is h e =
-      let four : length bytes - 32 + 4 - (length bytes - 32) ≡ 4 = omega arith in
-      rw (le-leb 32 (length bytes) h) (rw four at e)
-
-  pub there : hasTrailer bytes ≡ true → (32 ≤ length bytes) × (same mark (take 4 (trailerBytes bytes)) ≡ true)
-  unfolding hasTrailer
-  there present = let halves = both-true present in (leb-true _ _ (halves .0), halves .1)
-
-  pub trailer-is : {t : Trailer} → t ≡ trailerIn (take (length bytes - (length bytes - 32)) (drop (length bytes - 32) bytes)) → t ≡ trailerOf bytes
-  unfolding trailerOf trailerBytes
-  trailer-is e = e ∙ rw (lent-is (length bytes - 32))
-
-  module _ {t : Trailer} (e : t ≡ trailerOf bytes) (fits : t .distance ≤ length bytes - 32) where
-    whole : length bytes - 32 - (length bytes - 32 - t .distance) ≡ t .distance
-    whole = omega arith
-
-    pub sheet-is : take (length bytes - (length bytes - 32 - t .distance)) (drop (length bytes - 32 - t .distance) bytes) ≡ sheetIn bytes
-    unfolding sheetIn
-    sheet-is = rw e (lent-is (length bytes - 32 - trailerOf bytes .distance))
-
-    pub list-is : numbersOf 8 (take (length bytes - 32 - (length bytes - 32 - t .distance)) (drop (length bytes - 32 - t .distance) bytes)) ≡ listIn bytes
-    unfolding listIn sheetIn
-    list-is = rw (whole, e)
-
-    pub list-room : {room : ℕ} → t .distance ≡ 8 * t .count → t .count ≤ room
-        → length (take (length bytes - 32 - (length bytes - 32 - t .distance)) (drop (length bytes - 32 - t .distance) bytes)) / 8 ≤ room
-    list-room counted h = rw (whole, length-take-le (t .distance) (drop (length bytes - 32 - t .distance) bytes) (rw length-drop (omega arith))) (omega arith)
+use Rattle.sheet.specs.Read.{trailerOf, sheetIn, listIn, hasTrailer, hasList, sheetRows, readAnswer, listAfter}
 
 -- every row that judges the bytes passed
 pub record Clean (bytes : List ℕ) : Type 0 where
@@ -96,10 +39,10 @@ clean-rows wrong answer c = simp (c .present, c .right, c .sound, c .listed)
 rows-clean : {A : Type 0} (bytes : List ℕ) {wrong : Refusal → A} {answer x : A} → ((why : Refusal) → wrong why ≡ x → ⊥) → sheetRows bytes wrong answer ≡ x
     → Clean bytes × (answer ≡ x)
 rows-clean bytes never e =
-    let p = past-row (hasTrailer bytes) e (never NoSheet) in
-    let r = past-row (trailerRight (length bytes - 32) (trailerOf bytes)) (p .1) (never TrailerWrong) in
-    let s = past-row (checked (sheetIn bytes)) (r .1) (never CheckWordWrong) in
-    let l = past-row (hasList bytes) (s .1) (never ListNotWellFormed) in
+    let p = past-test (hasTrailer bytes) e (never NoSheet) in
+    let r = past-test (trailerRight (length bytes - 32) (trailerOf bytes)) (p .1) (never TrailerWrong) in
+    let s = past-test (checked (sheetIn bytes)) (r .1) (never CheckWordWrong) in
+    let l = past-test (hasList bytes) (s .1) (never ListNotWellFormed) in
     (record { present = p .0; right = r .0; sound = s .0; listed = l .0 }, l .1)
 
 -- a trailer that is handed on is that of the bytes, and right
@@ -166,8 +109,8 @@ pub was-read : (bytes : List ℕ) (asked : Label) (room : ℕ) {label count : �
 unfolding readAnswer
 was-read bytes asked room {label} {count} {settings} e =
     let rows = rows-clean bytes never e in
-    let a = past-row (eqb (trailerOf bytes .label) (byteOf asked)) (rows .1) (never OtherLabel) in
-    let m = past-row (leb (trailerOf bytes .count) room) (a .1) (never RoomTooShort) in
+    let a = past-test (eqb (trailerOf bytes .label) (byteOf asked)) (rows .1) (never OtherLabel) in
+    let m = past-test (leb (trailerOf bytes .count) room) (a .1) (never RoomTooShort) in
     record { clean = rows .0; labelled = eqb-true _ _ (a .0); the-label = same-label (m .1); the-settings = same-settings (m .1) }
   where
     never : (why : Refusal) → Refused why ≡ Read label settings count → ⊥

@@ -5,7 +5,8 @@ use borrow.Author.Needs.{needs}
 use borrow.Author.Tests.{eq-eqb, ne-eqb, le-leb, lt-leb}
 use Rattle.sheet.specs.declared.judging.Verdict.the-variants.{Sound}
 use Rattle.sheet.specs.Read.{readAnswer}
-use Rattle.sheet.proofs.Reading.{Handed, handed, list-is, list-room, answerTo, read-is, refused, wrote}
+use Rattle.sheet.proofs.Lent.{list-is, list-room}
+use Rattle.sheet.proofs.Reading.{Handed, handed, answerTo, read-is, refused, wrote}
 use Rattle.sheet.proofs.read_sheet.Statement.{statement}
 use Rattle.sheet.proofs.read_sheet.Tie as tie
 

@@ -11,7 +11,7 @@ use Rattle.sheet.specs.declared.judging.Verdict.the-variants.{Sound}
 use Rattle.sheet.specs.Trailer.{trailerRight}
 use Rattle.sheet.specs.Sheets.{checked}
 use Rattle.sheet.specs.Read.{trailerOf, sheetIn, hasTrailer, hasList}
-use Rattle.sheet.proofs.Reading.{Right, right-facts, there, lent-long, trailer-is, sheet-is, list-is}
+use Rattle.sheet.proofs.Lent.{Right, right-facts, there, lent-long, trailer-is, sheet-is, list-is}
 use Rattle.sheet.proofs.judging.judge.Statement.{statement}
 use Rattle.sheet.proofs.judging.judge.Tie as tie
 

@@ -2,7 +2,7 @@
 use borrow.Author.Needs.{needs}
 use borrow.Author.Tests.{lt-leb}
 use Rattle.sheet.specs.Read.{hasTrailer}
-use Rattle.sheet.proofs.Reading.{marked-is}
+use Rattle.sheet.proofs.Lent.{marked-is}
 use Rattle.sheet.proofs.trailer.has_trailer.Statement.{statement}
 use Rattle.sheet.proofs.trailer.has_trailer.Tie as tie
 
