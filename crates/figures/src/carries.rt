@@ -4,6 +4,9 @@ use super::logs::all_bits;
 use super::show;
 use carry::Carry;
 use carry::Outcome;
+use carry::block;
+use carry::close;
+use carry::fresh;
 use terms::Settings;
 
 // A carry at 48/200 whose last 48 bytes are zeros.
@@ -52,22 +55,22 @@ fn show_outcome(what: &[u8], outcome: Outcome, list: &[u64]) {
 
 fn start(what: &[u8], settings: Settings) {
     let list = [7u64; 0];
-    show_outcome(what, carry::fresh(settings), &list);
+    show_outcome(what, fresh(settings), &list);
 }
 
 fn take(what: &[u8], carry: Carry, bytes: &[u8], list: &mut [u64]) {
-    let outcome = carry::block(carry, bytes, list);
+    let outcome = block(carry, bytes, list);
     show_outcome(what, outcome, list);
 }
 
-fn close(what: &[u8], carry: Carry, list: &mut [u64]) {
-    let outcome = carry::close(carry, list);
+fn shut(what: &[u8], carry: Carry, list: &mut [u64]) {
+    let outcome = close(carry, list);
     show_outcome(what, outcome, list);
 }
 
 // What a refused fresh carry is: every part 0.
 fn nothing() -> Carry {
-    let outcome = carry::fresh(all_bits(47, 200));
+    let outcome = fresh(all_bits(47, 200));
     outcome.carry
 }
 
@@ -130,18 +133,18 @@ fn rooms() {
         &bytes[..47],
         &mut list,
     );
-    close(b"closing with no room", carry, &mut none);
-    close(b"closing with nothing to write", carry, &mut list);
-    close(b"closing with the end to write", zeros(400, 100), &mut list);
+    shut(b"closing with no room", carry, &mut none);
+    shut(b"closing with nothing to write", carry, &mut list);
+    shut(b"closing with the end to write", zeros(400, 100), &mut list);
 }
 
 fn closing() {
     let mut list = [7u64; 1];
-    close(b"closing no carry", nothing(), &mut list);
-    close(b"closing one not in order", zeros(10, 11), &mut list);
+    shut(b"closing no carry", nothing(), &mut list);
+    shut(b"closing one not in order", zeros(10, 11), &mut list);
     let mut carry = zeros(400, 100);
     carry.closed = true;
-    close(b"closing a closed one", carry, &mut list);
+    shut(b"closing a closed one", carry, &mut list);
 }
 
 pub fn run() {

@@ -3,7 +3,7 @@ mod amends;
 mod carries;
 mod logs;
 mod merges;
-mod pass;
+mod passes;
 mod segments;
 mod sheets;
 mod show;
@@ -11,7 +11,7 @@ mod whole;
 
 fn main() {
     whole::run();
-    pass::run();
+    passes::run();
     carries::run();
     segments::run();
     merges::run();

@@ -5,6 +5,9 @@ use super::logs::all_bits;
 use super::logs::eight_bits;
 use super::show;
 use carry::Carry;
+use carry::block;
+use carry::close;
+use carry::fresh;
 use terms::Answer;
 use terms::Settings;
 
@@ -28,7 +31,7 @@ fn take(pass: Pass, bytes: &[u8], list: &mut [u64]) -> Pass {
         return pass;
     }
     let carry = pass.carry;
-    let outcome = carry::block(carry, bytes, &mut list[from as usize..]);
+    let outcome = block(carry, bytes, &mut list[from as usize..]);
     let answer = outcome.answer;
     let after = outcome.carry;
     Pass {
@@ -53,7 +56,7 @@ fn end_of(at: usize, size: usize, length: usize) -> usize
 fn take_all(settings: Settings, log: &[u8], size: usize, list: &mut [u64]) -> Pass
     requires { ⌜ 0 < size ⌝ }
 {
-    let outcome = carry::fresh(settings);
+    let outcome = fresh(settings);
     let carry = outcome.carry;
     let mut pass = Pass { carry, written: 0 };
     let mut at: usize = 0;
@@ -72,7 +75,7 @@ fn finish(pass: Pass, list: &mut [u64]) -> u64 {
         return from;
     }
     let carry = pass.carry;
-    let outcome = carry::close(carry, &mut list[from as usize..]);
+    let outcome = close(carry, &mut list[from as usize..]);
     let answer = outcome.answer;
     std::num::wrapping_add_u64(from, count_of(answer))
 }
