@@ -22,10 +22,7 @@ pub fn is_well_formed(minimum: u64, maximum: u64, body: &[u8]) -> bool
         before = entry;
         i += 1;
     }
-    if before > 0x100_0000_0000 {
-        return false;
-    }
-    true
+    before <= terms::LONGEST
 }
 
 // Writes the offsets of a body to a list. It is inner: the caller sees that there is room.

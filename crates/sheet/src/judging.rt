@@ -16,6 +16,7 @@ pub enum Verdict {
     Wrong(Refusal),
 }
 
+// The rows in their order: 12, 14, 13 and 10.
 pub fn judge(bytes: &[u8]) -> Verdict
     ensures { λ r. ⌜ r ≡ sheetRows (now (bytes .entry)) Wrong (Sound (trailerOf (now (bytes .entry)))) ⌝ }
 {

@@ -80,11 +80,11 @@ pub fn read_sheet(bytes: &[u8], asked: Label, list: &mut [u64]) -> Sheet
         Verdict::Wrong(why) => return Sheet::Refused(why),
     };
     let label = trailer.label;
+    let count = trailer.count;
     let wanted = asked.byte();
     if label != wanted {
         return Sheet::Refused(Refusal::OtherLabel);
     }
-    let count = trailer.count;
     if (list.len() as u64) < count {
         return Sheet::Refused(Refusal::RoomTooShort);
     }

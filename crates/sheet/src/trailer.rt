@@ -62,10 +62,7 @@ fn is_label(byte: u8) -> bool
     if byte == b'P' {
         return true;
     }
-    if byte == b'L' {
-        return true;
-    }
-    false
+    byte == b'L'
 }
 
 // Whether a trailer's fields are right where so many bytes stand before it.
@@ -90,10 +87,7 @@ pub fn is_right(before: u64, trailer: Trailer) -> bool
     if distance != 8 * count {
         return false;
     }
-    if distance > before {
-        return false;
-    }
-    true
+    distance <= before
 }
 
 // Writes the trailer of a sheet of count cuts, up to its check word, after a body of as many. It is inner: the caller sees that

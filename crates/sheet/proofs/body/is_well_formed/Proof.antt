@@ -3,7 +3,7 @@ use mathlib.Core.Path.{_≡_, refl, sym, _∙_}
 use Prim.Native.Nat.{_-_, _/_, _≤_}
 use lib.ListN.{length, drop}
 use borrow.Author.Needs.{needs}
-use borrow.Author.Tests.{le-leb, lt-leb, not-true, not-false}
+use borrow.Author.Tests.{not-true, not-false}
 use Rattle.lists.specs.WellFormed.{stepsFit, wellFormed}
 use Rattle.words.specs.Numbers.{numbersOf}
 use Rattle.sheet.proofs.Offsets.{offset-passed, offset-refused, offsets-end}
@@ -28,13 +28,10 @@ loop-again : tie.Need-loop-again Inv-loop μ-loop
 loop-again c = (search needs, c .before .before .before .before .loop .inv .1 ∙ offset-passed _ _ _ _ _ (c .before .before .before .loop-test .taken) (c .before .before .number-at .ensures .0) (c .before .step-fits .ensures) (not-false _ (c .if1 .left)))
 
 returns-2 : tie.Need-returns-2 Inv-loop μ-loop
-returns-2 c = sym (c .before .before .loop .inv .1 ∙ offsets-end _ _ _ _ _ (c .before .loop-test .left) ∙ lt-leb _ _ (c .if2 .taken))
-
-returns-3 : tie.Need-returns-3 Inv-loop μ-loop
-returns-3 c = sym (c .before .before .loop .inv .1 ∙ offsets-end _ _ _ _ _ (c .before .loop-test .left) ∙ le-leb _ _ (c .if2 .left))
+returns-2 c = sym (c .before .loop .inv .1 ∙ offsets-end _ _ _ _ _ (c .loop-test .left))
 
 pub is-well-formed-spec : {M : Type 1} → statement M
 is-well-formed-spec =
     tie.close
     (tie.spec Inv-loop μ-loop loop-holds (λ c. search needs) (λ c κs. search needs) (λ c. search needs) (λ c κs. search needs) returns
-    (λ c. search needs) (λ c. search needs) loop-again returns-2 returns-3)
+    (λ c. search needs) (λ c. search needs) loop-again returns-2)

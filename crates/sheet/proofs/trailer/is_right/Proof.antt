@@ -45,17 +45,9 @@ returns-5 c = let s = signs (c .before .before) in simp (s .0, s .1, s .2, le-le
 
 returns-6 : tie.Need-returns-6
 unfolding trailerRight
-returns-6 c =
-    let s = signs (c .before .before .before) in
-    simp (s .0, s .1, s .2, le-leb _ _ (c .before .before .if4 .left), eq-eqb _ _ (c .before .if5 .left), lt-leb _ _ (c .if6 .taken))
-
-returns-7 : tie.Need-returns-7
-unfolding trailerRight
-returns-7 c =
-    let s = signs (c .before .before .before) in
-    simp (s .0, s .1, s .2, le-leb _ _ (c .before .before .if4 .left), eq-eqb _ _ (c .before .if5 .left), le-leb _ _ (c .if6 .left))
+returns-6 c = let s = signs (c .before .before) in rw (s .0, s .1, s .2, le-leb _ _ (c .before .if4 .left), eq-eqb _ _ (c .if5 .left))
 
 pub is-right-spec : {M : Type 1} → statement M
 is-right-spec =
     tie.close
-    (tie.spec (λ c κs. search needs) returns (λ c κs. search needs) returns-2 returns-3 returns-4 (λ c. search needs) returns-5 returns-6 returns-7)
+    (tie.spec (λ c κs. search needs) returns (λ c κs. search needs) returns-2 returns-3 returns-4 (λ c. search needs) returns-5 returns-6)
