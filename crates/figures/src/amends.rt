@@ -2,19 +2,10 @@
 ghost use mathlib.Core.Path.{_≡_};
 ghost use Prim.Native.Nat.{_<_};
 ghost use lib.ListN.{length};
+use super::logs::all_bits;
 use super::show;
 use amending::Amendment;
 use amending::amend;
-use terms::Settings;
-
-fn settings() -> Settings {
-    Settings {
-        bits: 31,
-        target: 1,
-        minimum: 48,
-        maximum: 200,
-    }
-}
 
 fn counts(what: &[u8], amendment: Amendment) {
     show::text(what);
@@ -47,7 +38,7 @@ fn edit(
     if length <= bytes.len() {
         counts(
             what,
-            amend(settings(), old, s, d, e, &bytes[..length], list),
+            amend(all_bits(48, 200), old, s, d, e, &bytes[..length], list),
         );
         show::entries(list);
     }

@@ -1,4 +1,5 @@
 // The cut sheet of log C's 48/200 list as practice, byte by byte, and each refusal by a sheet that is damaged its own way.
+use super::logs::all_bits;
 use super::show;
 use sheet::Sheet;
 use sheet::read_sheet;
@@ -8,20 +9,11 @@ use terms::Label;
 use terms::Refusal;
 use terms::Settings;
 
-fn settings() -> Settings {
-    Settings {
-        bits: 31,
-        target: 1,
-        minimum: 48,
-        maximum: 200,
-    }
-}
-
 // The sheet, after five bytes that are not its own.
 fn fill(bytes: &mut [u8]) {
     let list = [100u64, 200, 300, 400];
     if 5 <= bytes.len() {
-        write_sheet(settings(), Label::Practice, &list, &mut bytes[5..]);
+        write_sheet(all_bits(48, 200), Label::Practice, &list, &mut bytes[5..]);
     }
 }
 
@@ -101,7 +93,7 @@ fn figures() {
     let list = [100u64, 200, 300, 400];
     write(
         b"C's list as practice",
-        settings(),
+        all_bits(48, 200),
         Label::Practice,
         &list,
         69,
@@ -109,7 +101,7 @@ fn figures() {
     );
     write(
         b"an empty list as live",
-        settings(),
+        all_bits(48, 200),
         Label::Live,
         &list[..0],
         69,
@@ -149,14 +141,26 @@ fn refused_reading() {
 
 fn refused_writing() {
     let list = [100u64, 200, 300, 400];
-    let mut wrong = settings();
-    wrong.minimum = 47;
-    write(b"settings out of range", wrong, Label::Live, &list, 69, 0);
+    write(
+        b"settings out of range",
+        all_bits(47, 200),
+        Label::Live,
+        &list,
+        69,
+        0,
+    );
     let falling = [100u64, 99];
-    write(b"a falling list", settings(), Label::Live, &falling, 69, 0);
+    write(
+        b"a falling list",
+        all_bits(48, 200),
+        Label::Live,
+        &falling,
+        69,
+        0,
+    );
     write(
         b"room for one byte less",
-        settings(),
+        all_bits(48, 200),
         Label::Live,
         &list,
         63,

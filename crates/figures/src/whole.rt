@@ -1,4 +1,5 @@
 // Cutting whole logs: the shortest, those about the window's length, minimum = maximum, the limits. The lent list starts as sevens.
+use super::logs::eight_bits;
 use super::show;
 use cutting::whole::cut_log;
 use terms::Settings;
@@ -7,15 +8,6 @@ fn cut(what: &[u8], settings: Settings, log: &[u8]) {
     let mut list = [7u64; 6];
     show::answer(what, cut_log(settings, log, &mut list));
     show::entries(&list);
-}
-
-fn eight_bits(target: u32, minimum: u64, maximum: u64) -> Settings {
-    Settings {
-        bits: 8,
-        target,
-        minimum,
-        maximum,
-    }
 }
 
 // Zeros have signature 0, which no target is: every cut is forced.

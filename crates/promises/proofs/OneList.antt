@@ -23,7 +23,8 @@ use Rattle.board.proofs.Merged as merging
 use Rattle.board.proofs.Accepted as accepted
 use Rattle.board.proofs.Orders as orders
 use Rattle.promises.specs.OneList.{Marked, Lists}
-use Rattle.promises.proofs.Unless.{past-row, wrote-all}
+use Rattle.terms.proofs.Rows.{past-row}
+use Rattle.promises.proofs.Unless.{wrote-all}
 use Rattle.cutting.specs.WholeLog.{cutLogAnswer, cutLogList}
 
 told-of-mark : (s : Settings) (log : List ℕ) (p : ℕ) → mark s log p ≡ true → Marked s log p

@@ -25,7 +25,8 @@ use Rattle.board.proofs.Merged as merging
 use Rattle.board.proofs.Accepted as accepted
 use Rattle.board.proofs.Orders as orders
 use Rattle.promises.specs.OneList.{Lists}
-use Rattle.promises.proofs.Unless.{past-row, wrote-all}
+use Rattle.terms.proofs.Rows.{past-row}
+use Rattle.promises.proofs.Unless.{wrote-all}
 
 -- for any segment size, where each bay holds its segment's record, the walk over the bays is the log's list
 pub merged : (s : Settings) (log : List ℕ) (size width : ℕ) (board : List ℕ) → inRange s ≡ true → 0 < size

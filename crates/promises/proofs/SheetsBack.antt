@@ -10,7 +10,7 @@ use Rattle.terms.specs.declared.Answer.the-variants.{Wrote}
 use Rattle.terms.specs.declared.Refusal.{Refusal}
 use Rattle.terms.specs.Labels.{byteOf}
 use Rattle.sheet.specs.declared.Sheet.the-variants.{Read, Refused}
-use Rattle.sheet.specs.Numbers.{numbersOf}
+use Rattle.words.specs.Numbers.{numbersOf}
 use Rattle.sheet.specs.Sheets.{total, sheetOf}
 use Rattle.sheet.specs.Write.{writeAnswer, bytesAfter}
 use Rattle.sheet.specs.Read.{sheetIn, listIn, readAnswer, listAfter}

@@ -10,11 +10,10 @@ use lib.Seq.{take-all}
 use borrow.Author.Tests.{lt-leb, le-leb, lt-ltb, le-ltb, leb-true}
 use Rattle.laws.specs.Over.{over}
 use Rattle.laws.proofs.Cases.{by-lt}
-use Rattle.terms.specs.declared.Answer.{Answer}
-use Rattle.terms.specs.declared.Answer.the-variants.{Wrote, Refused}
-use Rattle.terms.specs.declared.Refusal.{Refusal}
+use Rattle.terms.specs.declared.Answer.the-variants.{Wrote}
 use Rattle.terms.specs.declared.Refusal.the-variants.{ListFull}
 use Rattle.terms.specs.Answers.{answerNumber, unless}
+use Rattle.terms.proofs.Rows.{past-row}
 use Rattle.carry.specs.declared.Outcome.{Outcome}
 use Rattle.cutting.specs.WholeLog.{writtenAnswer, writtenList}
 use Rattle.promises.specs.Rows.{whether}
@@ -55,11 +54,6 @@ unfolding writtenList
 guard-leaves number true cuts list full fine =
     record { untouched = λ refusal guard. absurd (refusal fine); guarded = λ guard. absurd (omega (arith, sym fine ∙ guard)) }
 guard-leaves number false cuts list full fine = record { untouched = λ refusal guard. absurd (guard full); guarded = λ guard. refl }
-
--- an answer past a row that is not the row's: the row's test passed
-pub past-row : (t : Bool) (why : Refusal) (answer : Answer) {k : ℕ} → unless t (Refused why) answer ≡ Wrote k → (t ≡ true) × (answer ≡ Wrote k)
-past-row true why answer e = (refl, e)
-past-row false why answer e = let z : _≡_ {A = ℕ} 0 1 = cc in absurd (omega arith)
 
 pub wrote-all : (cuts list : List ℕ) (k : ℕ) → writtenAnswer cuts (length list) ≡ Wrote k → Lists list (writtenList cuts list) cuts k
 unfolding writtenAnswer writtenList

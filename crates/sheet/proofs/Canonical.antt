@@ -2,28 +2,30 @@
 use mathlib.Core.Path.{_≡_, refl, sym, ap, ap₂, _∙_}
 use mathlib.Core.Bool.{true}
 use mathlib.Core.List.{List, [], _∷_, _++_, append-nil}
-use Prim.Native.Nat.{ℕ, _+_, _-_, _*_, _/_, _≤_}
+use Prim.Native.Nat.{ℕ, _+_, _-_, _*_, _≤_, _<_}
 use native.Mathlib.Omega.{arith}
-use native.Mathlib.Nat.{mul-div-cancel-left}
 use lib.Dec.{eqb, lit<}
 use lib.ListN.{length, take, drop, getD, length-drop, take-append-drop}
 use lib.Seq.{drop-cons, drop-drop, take-add, take-all, length-take-le}
-use borrow.Author.Tests.{leb-true, eqb-true}
+use borrow.Author.Tests.{eqb-true}
 use Rattle.laws.proofs.Cases.{both-true}
 use Rattle.terms.specs.declared.Settings.{Settings}
 use Rattle.terms.specs.declared.Label.{Label}
 use Rattle.terms.specs.Labels.{byteOf}
 use Rattle.sheet.specs.declared.trailer.Trailer.{Trailer}
 use Rattle.sheet.specs.declared.Sheet.the-variants.{Read}
-use Rattle.sheet.specs.Numbers.{bigEndian, written, numbersOf, numberAt}
+use Rattle.words.specs.Numbers.{bigEndian, written, numbersOf, numberAt}
 use Rattle.sheet.specs.Trailer.{mark, fields, trailerFor, trailerIn}
-use Rattle.sheet.specs.Sheets.{checkWord, checked, withCheck, sheetOf}
-use Rattle.sheet.specs.Read.{same, trailerBytes, trailerOf, sheetIn, listIn, hasTrailer, readAnswer}
-use Rattle.sheet.proofs.BigEndian.{length-numbers, bytes-part}
+use Rattle.sheet.specs.Sheets.{checked, withCheck, sheetOf}
+use Rattle.words.specs.Runs.{same}
+use Rattle.sheet.specs.Read.{trailerBytes, trailerOf, sheetIn, listIn, hasTrailer, readAnswer}
+use Rattle.words.proofs.BigEndian.{bytes-part}
+use Rattle.sheet.proofs.CheckWord.{checked-word}
 use Rattle.laws.specs.Bytes.{Bytes}
 use Rattle.laws.proofs.Bytes.{bytes-drop}
-use Rattle.sheet.proofs.Back.{bigEndian-numberAt, written-numbers}
-use Rattle.sheet.proofs.Reading.{Accepts, read-accepts, read-is, right-facts}
+use Rattle.words.proofs.Back.{bigEndian-numberAt, written-numbersOf, length-numbersOf}
+use Rattle.sheet.proofs.Lent.{right-facts, there}
+use Rattle.sheet.proofs.Reading.{Clean, was-read}
 
 same-true : (a b : List ℕ) → same a b ≡ true → a ≡ b
 unfolding same
@@ -47,72 +49,56 @@ fields-back l h long marked =
     cut 8 4 16 l ∙ rw (cut 12 4 12 l, cut 16 4 8 l, cut 20 4 4 l, append-nil) in
     let whole : take 28 l ≡ mark ++ ((getD l 4 0 ∷ getD l 5 0 ∷ take 2 (drop 6 l)) ++ take 20 (drop 8 l)) =
     cut 0 4 24 l ∙ rw (← (same-true mark (take 4 l) marked), cut 4 4 20 l, signs) in
-    rw (
-      whole,
-      sizes,
-      bigEndian-numberAt 6 2 l h (omega arith),
-      bigEndian-numberAt 8 4 l h (omega arith),
-      bigEndian-numberAt 12 4 l h (omega arith),
-      bigEndian-numberAt 16 4 l h (omega arith),
-      bigEndian-numberAt 20 4 l h (omega arith),
-      bigEndian-numberAt 24 4 l h (omega arith),
-    )
+    rw (whole, sizes, part 6 2 (lit< tt), part 8 4 (lit< tt), part 12 4 (lit< tt), part 16 4 (lit< tt), part 20 4 (lit< tt), part 24 4 (lit< tt))
+  where
+    part : (place width : ℕ) → place + width < 32 → bigEndian width (numberAt place width l) ≡ take width (drop place l)
+    part place width within = bigEndian-numberAt place width l h (omega arith)
+
+-- checked bytes are their front with its check word
+checked-made : (sheet : List ℕ) (n : ℕ) → Bytes sheet → length sheet ≡ n + 4 → checked sheet ≡ true → sheet ≡ withCheck (take n sheet)
+unfolding withCheck
+checked-made sheet n h long ok =
+    let word : bigEndian 4 (numberAt n 4 sheet) ≡ drop n sheet =
+    bigEndian-numberAt n 4 sheet h (omega arith) ∙ take-all 4 (drop n sheet) (rw length-drop (omega arith)) in
+    rw (← (checked-word sheet n long ok), word) (sym (take-append-drop n sheet))
 
 -- marked and checked bytes of a sheet's size are a body, the fields that stand in them, and their check word
 sheet-back : (sheet : List ℕ) (n : ℕ) → Bytes sheet → length sheet ≡ 8 * n + 32 → same mark (take 4 (drop (8 * n) sheet)) ≡ true → checked sheet ≡ true
     → sheet ≡ withCheck (written 8 (numbersOf 8 (take (8 * n) sheet)) ++ fields (trailerIn (drop (8 * n) sheet)))
-unfolding withCheck checked numbersOf
 sheet-back sheet n h long marked ok =
-    let body = take (8 * n) sheet in
-    let size : length body ≡ 8 * n = length-take-le (8 * n) sheet (omega arith) in
-    let many : length body / 8 ≡ n = rw size (mul-div-cancel-left n {n = 8} (lit< tt)) in
-    let offsets : written 8 (numbersOf 8 body) ≡ body = rw many (written-numbers 8 n body (bytes-part sheet 0 (8 * n) h) size) in
+    let body : written 8 (numbersOf 8 (take (8 * n) sheet)) ≡ take (8 * n) sheet =
+    written-numbersOf 8 (lit< tt) n _ (bytes-part sheet 0 (8 * n) h) (length-take-le (8 * n) sheet (omega arith)) in
     let trailer : fields (trailerIn (drop (8 * n) sheet)) ≡ take 28 (drop (8 * n) sheet) =
     fields-back (drop (8 * n) sheet) (bytes-drop (8 * n) sheet h) (rw length-drop (omega arith)) marked in
-    let front : written 8 (numbersOf 8 body) ++ fields (trailerIn (drop (8 * n) sheet)) ≡ take (8 * n + 28) sheet =
-    rw (offsets, trailer) (sym (take-add (8 * n) 28 sheet)) in
-    let place : length sheet - 4 ≡ 8 * n + 28 = omega arith in
-    let right : numberAt (length sheet - 4) 4 sheet ≡ checkWord (numbersOf 4 (take (length sheet - 4) sheet)) = eqb-true _ _ ok in
-    let right′ : numberAt (8 * n + 28) 4 sheet ≡ checkWord (numbersOf 4 (take (8 * n + 28) sheet)) = rw place at right in
-    let word : bigEndian 4 (checkWord (numbersOf 4 (take (8 * n + 28) sheet))) ≡ drop (8 * n + 28) sheet =
-    rw (← right′) (bigEndian-numberAt (8 * n + 28) 4 sheet h (omega arith) ∙ take-all 4 (drop (8 * n + 28) sheet) (rw length-drop (omega arith))) in
-    rw (front, word) (sym (take-append-drop (8 * n + 28) sheet))
+    checked-made sheet (8 * n + 28) h (omega arith) ok ∙ rw (body, trailer, take-add (8 * n) 28 sheet)
 
-module _ (bytes : List ℕ) (h : Bytes bytes) (asked : Label) (room : ℕ) (a : Accepts bytes asked room) where
+module _ (bytes : List ℕ) (h : Bytes bytes) (asked : Label) (a : Clean bytes) (label : trailerOf bytes .label ≡ byteOf asked) where
   -- the trailer of what is accepted is the one that the writer makes
   trailer-made : trailerOf bytes ≡ trailerFor (trailerOf bytes .settings) asked (trailerOf bytes .count)
   unfolding trailerFor
   trailer-made =
-      let r = right-facts _ _ (a .right) in
-      let label : trailerOf bytes .label ≡ byteOf asked = eqb-true _ _ (a .labelled) in
+      let r = right-facts (a .right) in
       λ i. record { label = label i; settings = trailerOf bytes .settings; zeros = r .zeros i; count = trailerOf bytes .count; distance = r .distance i }
 
   accepted-made : sheetIn bytes ≡ sheetOf (trailerOf bytes .settings) asked (listIn bytes)
-  unfolding sheetOf sheetIn listIn hasTrailer trailerBytes trailerOf numbersOf
+  unfolding sheetOf sheetIn listIn hasTrailer trailerBytes trailerOf
   accepted-made =
       let t = trailerOf bytes in
-      let r = right-facts _ _ (a .right) in
-      let halves = both-true (a .present) in
-      let enough : 32 ≤ length bytes = leb-true _ _ (halves .0) in
+      let r = right-facts (a .right) in
+      let marked = there bytes (a .present) in
       let sheet = drop (length bytes - 32 - t .distance) bytes in
-      let long : length sheet ≡ 8 * t .count + 32 = rw length-drop (omega (arith, r .distance, r .body)) in
+      let long : length sheet ≡ 8 * t .count + 32 = rw length-drop (omega (arith, marked .0, r .distance, r .body)) in
       let place : length bytes - 32 - t .distance + 8 * t .count ≡ length bytes - 32 = omega (arith, r .distance, r .body) in
       let last : drop (8 * t .count) sheet ≡ trailerBytes bytes = rw (drop-drop, place) in
-      let made = sheet-back sheet (t .count) (bytes-drop (length bytes - 32 - t .distance) bytes h) long (rw last (halves .1)) (a .sound) in
-      let body : take (8 * t .count) sheet ≡ take (t .distance) sheet = ap (λ (k : ℕ). take k sheet) (sym (r .distance)) in
-      let size : length (take (t .distance) sheet) ≡ t .distance = length-take-le (t .distance) sheet (omega (arith, long, r .distance)) in
-      let many : length (take (t .distance) sheet) / 8 ≡ t .count = rw (size, r .distance) (mul-div-cancel-left (t .count) {n = 8} (lit< tt)) in
-      let counted : length (numbersOf 8 (take (t .distance) sheet)) ≡ t .count = rw many (length-numbers 8 (t .count) (take (t .distance) sheet)) in
-      let trailer : trailerIn (drop (8 * t .count) sheet) ≡ trailerFor (t .settings) asked (length (numbersOf 8 (take (t .distance) sheet))) =
+      let body : listIn bytes ≡ numbersOf 8 (take (8 * t .count) sheet) = ap (λ (k : ℕ). numbersOf 8 (take k sheet)) (r .distance) in
+      let counted : length (listIn bytes) ≡ t .count =
+      rw body (length-numbersOf 8 (lit< tt) (t .count) (take (8 * t .count) sheet) (length-take-le (8 * t .count) sheet (omega (arith, long)))) in
+      let trailer : trailerIn (drop (8 * t .count) sheet) ≡ trailerFor (t .settings) asked (length (listIn bytes)) =
       ap trailerIn last ∙ trailer-made ∙ ap (trailerFor (t .settings) asked) (sym counted) in
-      made ∙ ap₂ (λ (l : List ℕ) (x : Trailer). withCheck (written 8 (numbersOf 8 l) ++ fields x)) body trailer
+      sheet-back sheet (t .count) (bytes-drop (length bytes - 32 - t .distance) bytes h) long (rw last (marked .1)) (a .sound)
+      ∙ ap₂ (λ (l : List ℕ) (x : Trailer). withCheck (written 8 l ++ fields x)) (sym body) trailer
 
 -- settings, list and label fix every byte: what reads is what the writer writes for them
 pub canonical : (bytes : List ℕ) (asked : Label) (room : ℕ) {label count : ℕ} {settings : Settings} → Bytes bytes → readAnswer bytes asked room ≡ Read label settings count
     → sheetIn bytes ≡ sheetOf settings asked (listIn bytes)
-canonical bytes asked room h e =
-    let a = read-accepts bytes asked room e in
-    rw (same-settings (sym (read-is bytes asked room a) ∙ e)) at (accepted-made bytes h asked room a)
-  where
-    same-settings : {l m c d : ℕ} {s r : Settings} → Read l s c ≡ Read m r d → s ≡ r
-    same-settings p = cc
+canonical bytes asked room h e = let r = was-read bytes asked room e in rw (r .the-settings) (accepted-made bytes h asked (r .clean) (r .labelled))

@@ -1,18 +1,18 @@
 -- The check word by wrapping sums.
-use mathlib.Core.Path.{_≡_, sym, _∙_}
+use mathlib.Core.Path.{_≡_, sym}
 use mathlib.Core.List.{List, [], _∷_, _++_}
-use Prim.Native.Nat.{ℕ, suc, _+_, _-_, _*_, _/_, _%_, _^_, _<_}
+use Prim.Native.Nat.{ℕ, suc, _+_, _-_, _*_, _%_, _^_, _<_}
 use native.Mathlib.Omega.{arith}
 use native.Mathlib.Numerals.{add-one}
-use native.Mathlib.Nat.{add-zero, add-assoc, mod-add-mod, mul-div-cancel-left, le-of-eq}
-use mathlib.Core.Bool.{true, false}
-use borrow.Author.Tests.{eq-eqb, ne-eqb, eqb-true}
+use native.Mathlib.Nat.{add-zero, add-assoc, mod-add-mod}
+use mathlib.Core.Bool.{true}
+use borrow.Author.Tests.{eqb-true}
 use lib.Dec.{lit<}
-use lib.ListN.{length, take, drop, take-append-drop}
-use lib.Seq.{length-take-le}
-use Rattle.sheet.specs.Numbers.{numbers, numbersOf, numberAt}
+use lib.ListN.{length, take}
+use Rattle.words.specs.Numbers.{numbers, numbersOf, numberAt}
 use Rattle.sheet.specs.Sheets.{total, checkWord, checked}
-use Rattle.sheet.proofs.BigEndian.{numbers-more, numbers-front}
+use Rattle.words.proofs.BigEndian.{numbers-more}
+use Rattle.words.proofs.Back.{numbersOf-more}
 
 pub total-append : (l m : List ℕ) → total (l ++ m) ≡ total l + total m
 unfolding total
@@ -33,16 +33,12 @@ pub checkWord-lt : (words : List ℕ) → checkWord words < 2 ^ 32
 unfolding checkWord
 checkWord-lt words = omega arith
 
--- the last word found is compared with the right one
-module _ (sheet : List ℕ) {found right : ℕ}
-    (is-found : found ≡ numberAt (length sheet - 4) 4 sheet) (is-right : right ≡ checkWord (numbersOf 4 (take (length sheet - 4) sheet))) where
-  pub checked-true : found ≡ right → checked sheet ≡ true
-  unfolding checked
-  checked-true e = eq-eqb _ _ (sym is-found ∙ e ∙ is-right)
-
-  pub checked-false : (found ≡ right → ⊥) → checked sheet ≡ false
-  unfolding checked
-  checked-false ne = ne-eqb _ _ (λ e. ne (is-found ∙ e ∙ sym is-right))
+-- the last word of a checked sheet is the check word of what stands before it
+pub checked-word : (sheet : List ℕ) (n : ℕ) → length sheet ≡ n + 4 → checked sheet ≡ true → numberAt n 4 sheet ≡ checkWord (numbersOf 4 (take n sheet))
+unfolding checked
+checked-word sheet n long ok =
+    let place : length sheet - 4 ≡ n = omega arith in
+    eqb-true _ _ (rw place at ok)
 
 zero-sum : (words : List ℕ) → (total words + total (checkWord words ∷ [])) % 2 ^ 32 ≡ 0
 unfolding total checkWord
@@ -50,13 +46,5 @@ zero-sum words = omega arith
 
 -- the words of a checked sheet add to zero modulo 2^32
 pub checked-adds : (sheet : List ℕ) (k : ℕ) → length sheet ≡ 4 * suc k → checked sheet ≡ true → total (numbersOf 4 sheet) % 2 ^ 32 ≡ 0
-unfolding checked numbersOf
 checked-adds sheet k e ok =
-    let place : length sheet - 4 ≡ 4 * k = omega arith in
-    let front = take (4 * k) sheet in
-    let size : length front ≡ 4 * k = length-take-le (4 * k) sheet (omega arith) in
-    let words : numbers 4 (length front / 4) front ≡ numbers 4 k sheet =
-    rw (size, mul-div-cancel-left k {n = 4} (lit< tt)) (sym (rw (take-append-drop (4 * k) sheet) at (numbers-front 4 k front (drop (4 * k) sheet) (le-of-eq (sym size))))) in
-    let right : numberAt (length sheet - 4) 4 sheet ≡ checkWord (numbersOf 4 (take (length sheet - 4) sheet)) = eqb-true _ _ ok in
-    let last : numberAt (4 * k) 4 sheet ≡ checkWord (numbers 4 k sheet) = rw words at (rw place at right) in
-    rw (e, mul-div-cancel-left (suc k) {n = 4} (lit< tt), numbers-more 4 k sheet, total-append, last) (zero-sum (numbers 4 k sheet))
+    rw (numbersOf-more 4 (lit< tt) k sheet e, total-append, checked-word sheet (4 * k) (omega arith) ok) (zero-sum (numbersOf 4 (take (4 * k) sheet)))

@@ -1,14 +1,14 @@
 -- A damaged word of a sheet is always refused: a wrong count or distance no longer agree with each other, and any other word
 -- makes the sum of all words other than zero.
-use mathlib.Core.Path.{_≡_, refl, sym, ap, _∙_}
+use mathlib.Core.Path.{_≡_, sym, ap, _∙_}
 use mathlib.Core.Bool.{true}
-use mathlib.Core.List.{List, [], _∷_, _++_, append-nil}
+use mathlib.Core.List.{List, [], _∷_, _++_}
 use Prim.Native.Nat.{ℕ, zero, suc, _+_, _-_, _*_, _/_, _%_, _^_, _≤_, _<_}
 use native.Mathlib.Omega.{arith}
-use native.Mathlib.Nat.{mul-div-cancel-left, le-of-suc-le-suc, le-of-eq}
+use native.Mathlib.Nat.{le-of-suc-le-suc}
 use lib.Dec.{eqb, lit<}
 use lib.ListN.{length, take, drop, getD, set, length-append, length-set, length-drop}
-use lib.Seq.{drop-append-add, drop-append-seam, getD-drop, getD-set-same, getD-set-other}
+use lib.Seq.{drop-append-add, getD-drop, getD-set-same, getD-set-other}
 use borrow.Author.Tests.{eqb-true, eqb-false, lt-ltb}
 use Rattle.laws.proofs.Cases.{by-test}
 use Rattle.terms.specs.declared.Settings.{Settings}
@@ -21,19 +21,20 @@ use Rattle.terms.specs.Settings.{inRange}
 use Rattle.terms.proofs.Ranges.{ranges}
 use Rattle.lists.specs.WellFormed.{wellFormed}
 use Rattle.sheet.specs.declared.trailer.Trailer.{Trailer}
-use Rattle.sheet.specs.declared.Sheet.{Sheet}
-use Rattle.sheet.specs.declared.Sheet.the-variants.{Read, Refused}
-use Rattle.sheet.specs.Numbers.{bigEndian, written, numbersOf, numberAt}
+use Rattle.sheet.specs.declared.Sheet.the-variants.{Refused}
+use Rattle.words.specs.Numbers.{bigEndian, written, numbersOf, numberAt}
 use Rattle.sheet.specs.Trailer.{mostCuts, fields, trailerFor, trailerIn}
-use Rattle.sheet.specs.Sheets.{total, checkWord, checked, withCheck, sheetOf}
+use Rattle.sheet.specs.Sheets.{total, checkWord, withCheck, sheetOf}
 use Rattle.sheet.specs.Write.{writeAnswer, bytesAfter}
-use Rattle.sheet.specs.Read.{trailerBytes, trailerOf, sheetIn, readAnswer}
-use Rattle.sheet.proofs.BigEndian.{length-written, length-numbers}
+use Rattle.sheet.specs.Read.{trailerBytes, trailerOf, readAnswer}
+use Rattle.words.proofs.BigEndian.{length-written}
 use Rattle.laws.specs.Bytes.{Bytes}
-use Rattle.sheet.proofs.Back.{Wide, numbers-written, written-numbers, drop-written, numberAt-written, numbers-wide, bytes-test, bytes-append, bytes-bigEndian, bytes-written}
+use Rattle.words.proofs.Back.{Wide, numbersOf-written, length-numbersOf, written-numbersOf, numbersOf-wide, drop-written, numberAt-written, bytes-test, bytes-append, bytes-bigEndian, bytes-written}
 use Rattle.sheet.proofs.CheckWord.{checked-adds}
-use Rattle.sheet.proofs.Reading.{Accepts, read-accepts, right-facts}
-use Rattle.sheet.proofs.RoundTrip.{found}
+use Rattle.sheet.proofs.Parts.{sheet-at}
+use Rattle.sheet.proofs.Lent.{right-facts}
+use Rattle.sheet.proofs.Reading.{Clean, not-read}
+use Rattle.sheet.proofs.RoundTrip.{Found, found}
 use Rattle.sheet.proofs.Promised.{writable, written-there, length-sheet}
 
 -- a word exchanged for another moves the sum by their difference
@@ -54,17 +55,13 @@ module _ (before words : List ℕ) (count : ℕ) (size : length words ≡ 2 * co
   length-bytes : length (before ++ written 4 words) ≡ length before + 8 * count + 32
   length-bytes = rw (length-append, length-written, size) (omega arith)
 
-  the-trailer : trailerBytes (before ++ written 4 words) ≡ written 4 (drop (2 * count) words)
-  unfolding trailerBytes
-  the-trailer =
-      let place : length (before ++ written 4 words) - 32 ≡ length before + 4 * (2 * count) = omega (arith, length-bytes) in
-      rw (place, drop-append-add before (written 4 words) (4 * (2 * count))) (drop-written 4 (2 * count) words)
-
   word-of-trailer : (j : ℕ) → j < 8 → numberAt (4 * j) 4 (trailerBytes (before ++ written 4 words)) ≡ getD words (2 * count + j) 0
+  unfolding trailerBytes
   word-of-trailer j h =
-      rw the-trailer (numberAt-written 4 j (drop (2 * count) words) (rw length-drop (omega arith)) (λ i. rw getD-drop (wide (2 * count + i))) ∙ getD-drop (2 * count) words j 0)
+      let place : length (before ++ written 4 words) - 32 ≡ length before + 4 * (2 * count) = omega (arith, length-bytes) in
+      rw (place, drop-append-add before (written 4 words) (4 * (2 * count)), drop-written 4 (2 * count) words)
+      (numberAt-written 4 j (drop (2 * count) words) (rw length-drop (omega arith)) (λ i. rw getD-drop (wide (2 * count + i))) ∙ getD-drop (2 * count) words j 0)
 
-  -- its count and its distance are words of it
   the-count : trailerOf (before ++ written 4 words) .count ≡ getD words (2 * count + 5) 0
   unfolding trailerOf trailerIn
   the-count = word-of-trailer 5 (lit< tt)
@@ -73,84 +70,69 @@ module _ (before words : List ℕ) (count : ℕ) (size : length words ≡ 2 * co
   unfolding trailerOf trailerIn
   the-distance = word-of-trailer 6 (lit< tt)
 
-  -- where its distance is that of its words, they add to zero
-  adds : trailerOf (before ++ written 4 words) .distance ≡ 8 * count → checked (sheetIn (before ++ written 4 words)) ≡ true → total words % 2 ^ 32 ≡ 0
-  unfolding sheetIn numbersOf
-  adds e ok =
-      let place : length (before ++ written 4 words) - 32 - 8 * count ≡ length before = omega (arith, length-bytes) in
-      let whole : sheetIn (before ++ written 4 words) ≡ written 4 words = rw (e, place) (drop-append-seam before (written 4 words)) in
-      let long : length (written 4 words) ≡ 4 * suc (2 * count + 7) = rw (length-written, size) (omega arith) in
-      let many : length (written 4 words) / 4 ≡ length words = rw length-written (mul-div-cancel-left (length words) {n = 4} (lit< tt)) in
-      let again : numbersOf 4 (written 4 words) ≡ words = rw many (rw append-nil at (numbers-written 4 words [] wide)) in
-      rw again at (checked-adds (written 4 words) (2 * count + 7) long (rw whole at ok))
+  -- where it is clean, the count ties the distance; and where that is the body's length, the words add to zero
+  module _ (clean : Clean (before ++ written 4 words)) where
+    tied : getD words (2 * count + 6) 0 ≡ 8 * getD words (2 * count + 5) 0
+    tied = sym the-distance ∙ right-facts (clean .right) .distance ∙ ap (λ (n : ℕ). 8 * n) the-count
 
--- one word exchanged for another is not accepted
-module _ (before words : List ℕ) (count : ℕ) (size : length words ≡ 2 * count + 8) (wide : Wide 4 words)
-    (counted : getD words (2 * count + 5) 0 ≡ count) (distant : getD words (2 * count + 6) 0 ≡ 8 * count) (sum : total words % 2 ^ 32 ≡ 0)
-    (k word : ℕ) (inside : k < length words) (fits : word < 2 ^ 32) where
-  not-accepted : (asked : Label) (room : ℕ) → Accepts (before ++ written 4 (set words k word)) asked room → word ≡ getD words k 0
-  not-accepted asked room a =
-      let damaged = set words k word in
-      let size′ : length damaged ≡ 2 * count + 8 = length-set words k word ∙ size in
-      let wide′ = wide-set 4 words k word inside wide fits in
-      let right = right-facts _ _ (a .right) in
-      let distance : getD damaged (2 * count + 6) 0 ≡ 8 * getD damaged (2 * count + 5) 0 =
-      sym (the-distance before damaged count size′ wide′) ∙ right .distance ∙ ap (λ (n : ℕ). 8 * n) (the-count before damaged count size′ wide′) in
-      let kept : getD damaged (2 * count + 6) 0 ≡ 8 * count =
-      by-test (eqb (2 * count + 6) k)
-      (λ e. distance ∙ ap (λ (n : ℕ). 8 * n) (getD-set-other words k (2 * count + 5) word 0 (λ q. other (2 * count) q (eqb-true _ _ e)) ∙ counted))
-      (λ e. getD-set-other words k (2 * count + 6) word 0 (eqb-false _ _ e) ∙ distant) in
-      let zero-sum = adds before damaged count size′ wide′ (the-distance before damaged count size′ wide′ ∙ kept) (a .sound) in
-      omega (arith, total-set words k word inside, zero-sum, sum, wide k)
-    where
-      other : (c : ℕ) → c + 5 ≡ k → c + 6 ≡ k → ⊥
-      other c p q = omega arith
-
-bytes-sheet : (settings : Settings) (label : Label) (list : List ℕ) → inRange settings ≡ true → Bytes (sheetOf settings label list)
-unfolding sheetOf withCheck fields trailerFor bigEndian
-bytes-sheet settings label list ok =
-    let signs : List ℕ = 67 ∷ 85 ∷ 84 ∷ 83 ∷ byteOf label ∷ settings .bits ∷ 0 ∷ 0 ∷ [] in
-    let sizes = written 4 (settings .target ∷ settings .minimum ∷ settings .maximum ∷ length list ∷ 8 * length list ∷ []) in
-    let front = written 8 list ++ (signs ++ sizes) in
-    let bits : settings .bits < 256 = omega (arith, ranges settings ok .few-bits) in
-    let signed : Bytes signs =
-    bytes-test signs (simp (lt-ltb (byteOf label) 256 (letter label), lt-ltb (settings .bits) 256 bits)) in
-    bytes-append front (bigEndian 4 (checkWord (numbersOf 4 front)))
-    (bytes-append (written 8 list) (signs ++ sizes) (bytes-written 8 list) (bytes-append signs sizes signed (bytes-written 4 _)))
-    (bytes-bigEndian 4 (checkWord (numbersOf 4 front)))
-  where
-    letter : (label : Label) → byteOf label < 256
-    letter Practice = lit< tt
-    letter Live = lit< tt
+    adds : getD words (2 * count + 6) 0 ≡ 8 * count → total words % 2 ^ 32 ≡ 0
+    adds e =
+        let long : length (written 4 words) ≡ 8 * count + 32 = rw (length-written, size) (omega arith) in
+        rw (numbersOf-written 4 (lit< tt) words wide) at
+        (checked-adds (written 4 words) (2 * count + 7) (omega arith) (rw (sheet-at before (written 4 words) (8 * count) long (the-distance ∙ e)) at (clean .sound)))
 
 -- the words of a sheet as it is written
-record Words (count : ℕ) (sheet : List ℕ) : Type 0 where
-  many : length (numbersOf 4 sheet) ≡ 2 * count + 8
-  wide : Wide 4 (numbersOf 4 sheet)
-  counted : getD (numbersOf 4 sheet) (2 * count + 5) 0 ≡ count
-  distant : getD (numbersOf 4 sheet) (2 * count + 6) 0 ≡ 8 * count
-  sum : total (numbersOf 4 sheet) % 2 ^ 32 ≡ 0
+record Words (count : ℕ) (words : List ℕ) : Type 0 where
+  size : length words ≡ 2 * count + 8
+  wide : Wide 4 words
+  clean : Clean (written 4 words)
+  counted : getD words (2 * count + 5) 0 ≡ count
 
-sheet-words : (settings : Settings) (label : Label) (list : List ℕ) → inRange settings ≡ true → wellFormed (settings .minimum) (settings .maximum) list ≡ true → length list ≤ mostCuts
-    → Words (length list) (sheetOf settings label list)
-unfolding numbersOf trailerFor
-sheet-words settings label list ok well few =
-    let sheet = sheetOf settings label list in
-    let n = length list in
-    let long : length sheet ≡ 4 * (2 * n + 8) = length-sheet settings label list ∙ omega arith in
-    let quarter : length sheet / 4 ≡ 2 * n + 8 = rw long (mul-div-cancel-left (2 * n + 8) {n = 4} (lit< tt)) in
-    let all-bytes = bytes-sheet settings label list ok in
-    let many : length (numbersOf 4 sheet) ≡ 2 * n + 8 = rw quarter (length-numbers 4 (2 * n + 8) sheet) in
-    let wide : Wide 4 (numbersOf 4 sheet) = rw quarter (numbers-wide 4 (2 * n + 8) sheet all-bytes (le-of-eq (sym long))) in
-    let back : written 4 (numbersOf 4 sheet) ≡ sheet = rw quarter (written-numbers 4 (2 * n + 8) sheet all-bytes long) in
-    let f = found settings label list [] ok well few in
-    record {
-      many = many;
-      wide = wide;
-      counted = sym (the-count [] (numbersOf 4 sheet) n many wide) ∙ rw back (ap (λ (t : Trailer). t .count) (f .trailer));
-      distant = sym (the-distance [] (numbersOf 4 sheet) n many wide) ∙ rw back (ap (λ (t : Trailer). t .distance) (f .trailer));
-      sum = adds [] (numbersOf 4 sheet) n many wide (rw back (ap (λ (t : Trailer). t .distance) (f .trailer))) (rw back (f .sound));
-    }
+-- one of them exchanged for another is not clean
+not-clean : (before words : List ℕ) (count k word : ℕ) → Words count words → k < length words → word < 2 ^ 32
+    → Clean (before ++ written 4 (set words k word)) → word ≡ getD words k 0
+not-clean before words count k word w inside fits a =
+    let damaged = set words k word in
+    let size : length damaged ≡ 2 * count + 8 = length-set words k word ∙ w .size in
+    let wide = wide-set 4 words k word inside (w .wide) fits in
+    let distant : getD words (2 * count + 6) 0 ≡ 8 * count = tied [] words count (w .size) (w .wide) (w .clean) ∙ ap (λ (n : ℕ). 8 * n) (w .counted) in
+    let kept : getD damaged (2 * count + 6) 0 ≡ 8 * count =
+    by-test (eqb (2 * count + 6) k)
+    (λ e. tied before damaged count size wide a ∙ ap (λ (n : ℕ). 8 * n) (getD-set-other words k (2 * count + 5) word 0 (λ q. other (2 * count) q (eqb-true _ _ e)) ∙ w .counted))
+    (λ e. getD-set-other words k (2 * count + 6) word 0 (eqb-false _ _ e) ∙ distant) in
+    omega (arith, total-set words k word inside, adds before damaged count size wide a kept, adds [] words count (w .size) (w .wide) (w .clean) distant, w .wide k)
+  where
+    other : (c : ℕ) → c + 5 ≡ k → c + 6 ≡ k → ⊥
+    other c p q = omega arith
+
+module _ (settings : Settings) (label : Label) (list : List ℕ)
+    (ok : inRange settings ≡ true) (well : wellFormed (settings .minimum) (settings .maximum) list ≡ true) (few : length list ≤ mostCuts) where
+  bytes-sheet : Bytes (sheetOf settings label list)
+  unfolding sheetOf withCheck fields trailerFor bigEndian
+  bytes-sheet =
+      let signs : List ℕ = 67 ∷ 85 ∷ 84 ∷ 83 ∷ byteOf label ∷ settings .bits ∷ 0 ∷ 0 ∷ [] in
+      let bits : settings .bits < 256 = omega (arith, ranges settings ok .few-bits) in
+      let signed : Bytes signs = bytes-test signs (simp (lt-ltb (byteOf label) 256 (letter label), lt-ltb (settings .bits) 256 bits)) in
+      let sizes = written 4 (settings .target ∷ settings .minimum ∷ settings .maximum ∷ length list ∷ 8 * length list ∷ []) in
+      let front = written 8 list ++ (signs ++ sizes) in
+      bytes-append front (bigEndian 4 (checkWord (numbersOf 4 front)))
+      (bytes-append (written 8 list) (signs ++ sizes) (bytes-written 8 list) (bytes-append signs sizes signed (bytes-written 4 _))) (bytes-bigEndian 4 _)
+    where
+      letter : (label : Label) → byteOf label < 256
+      letter Practice = lit< tt
+      letter Live = lit< tt
+
+  sheet-words : Words (length list) (numbersOf 4 (sheetOf settings label list))
+  unfolding trailerFor
+  sheet-words =
+      let sheet = sheetOf settings label list in
+      let n = length list in
+      let long : length sheet ≡ 4 * (2 * n + 8) = length-sheet settings label list ∙ omega arith in
+      let size = length-numbersOf 4 (lit< tt) (2 * n + 8) sheet long in
+      let wide = numbersOf-wide 4 (lit< tt) (2 * n + 8) sheet bytes-sheet long in
+      let f : Found settings label list (written 4 (numbersOf 4 sheet)) = rw (written-numbersOf 4 (lit< tt) (2 * n + 8) sheet bytes-sheet long) (found settings label list [] ok well few) in
+      let counted = sym (the-count [] (numbersOf 4 sheet) n size wide) ∙ ap (λ (t : Trailer). t .count) (f .trailer) in
+      record { size = size; wide = wide; clean = f .clean; counted = counted }
 
 -- a sheet with its k-th 32-bit word damaged, counted from 0 at the body's start
 abbrev pub damaged : (k word : ℕ) → List ℕ → List ℕ
@@ -161,18 +143,8 @@ module _ (settings : Settings) (label : Label) (list bytes : List ℕ) {size : �
   pub damage-refused : (k word : ℕ) (before : List ℕ) (asked : Label) (room : ℕ)
       → k < size / 4 → word < 2 ^ 32 → (word ≡ getD (numbersOf 4 (take size (bytesAfter settings label list bytes))) k 0 → ⊥)
       → (why : Refusal) × (readAnswer (before ++ damaged k word (take size (bytesAfter settings label list bytes))) asked room ≡ Refused why)
-  damage-refused k word before asked room inside fits differs =
-      go (readAnswer (before ++ damaged k word (take size (bytesAfter settings label list bytes))) asked room) refl
-    where
-      not-read : Accepts (before ++ damaged k word (take size (bytesAfter settings label list bytes))) asked room → ⊥
-      not-read a =
-          let w = writable settings list (length bytes) wrote in
-          let s = sheet-words settings label list (w .in-range) (w .well-formed) (w .few) in
-          differs (rw (written-there settings label list bytes wrote)
-          (not-accepted before (numbersOf 4 (sheetOf settings label list)) (length list) (s .many) (s .wide) (s .counted) (s .distant) (s .sum) k word
-          (omega (arith, w .whole, s .many)) fits asked room (rw (written-there settings label list bytes wrote) at a)))
-
-      go : (r : Sheet) → readAnswer (before ++ damaged k word (take size (bytesAfter settings label list bytes))) asked room ≡ r
-          → (why : Refusal) × (readAnswer (before ++ damaged k word (take size (bytesAfter settings label list bytes))) asked room ≡ Refused why)
-      go (Refused why) e = (why, e)
-      go (Read l s c) e = absurd (not-read (read-accepts _ asked room e))
+  damage-refused k word before asked room inside fits =
+      let w = writable settings list (length bytes) wrote in
+      let s = sheet-words settings label list (w .in-range) (w .well-formed) (w .few) in
+      rw (written-there settings label list bytes wrote)
+      (λ differs. not-read _ asked room (λ a. differs (not-clean before (numbersOf 4 (sheetOf settings label list)) (length list) k word s (omega (arith, w .whole, s .size)) fits a)))

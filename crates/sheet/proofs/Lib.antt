@@ -1,10 +1,8 @@
-pub mod BigEndian
 pub mod CheckWord
-pub mod Same
 pub mod Offsets
 pub mod Parts
+pub mod Lent
 pub mod Reading
-pub mod Back
 pub mod RoundTrip
 pub mod Promised
 pub mod Damage

@@ -7,8 +7,8 @@ use lib.Dec.{leb, eqb}
 use lib.ListN.{length, getD, drop}
 use Rattle.lists.specs.WellFormed.{stepFits, stepsFit}
 use Rattle.lists.proofs.Steps.{step-passed, step-refused, steps-end}
-use Rattle.sheet.specs.Numbers.{numbersOf, numberAt}
-use Rattle.sheet.proofs.BigEndian.{length-numbers, getD-numbers}
+use Rattle.words.specs.Numbers.{numbersOf, numberAt}
+use Rattle.words.proofs.BigEndian.{length-numbers, getD-numbers}
 
 length-offsets : (body : List ℕ) → length (numbersOf 8 body) ≡ length body / 8
 unfolding numbersOf

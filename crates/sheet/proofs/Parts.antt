@@ -1,7 +1,10 @@
 -- A sheet as it is laid out: the trailer's fields, then the whole, each written part by part.
 use mathlib.Core.Path.{_≡_, refl}
 use mathlib.Core.List.{List, [], _∷_, _++_}
-use Prim.Native.Nat.{ℕ, _+_, _*_, _≤_}
+use Prim.Native.Nat.{ℕ, _+_, _-_, _*_, _≤_}
+use native.Mathlib.Omega.{arith}
+use lib.Seq.{drop-append-seam}
+use Rattle.sheet.specs.Read.{trailerBytes, trailerOf, sheetIn}
 use lib.ListN.{length, take, length-append}
 use Rattle.laws.specs.Over.{over, overFrom}
 use Rattle.laws.proofs.Writing.{take-over, overFrom-zero, overFrom-over, overFrom-join}
@@ -9,10 +12,10 @@ use Rattle.terms.specs.declared.Settings.{Settings}
 use Rattle.terms.specs.declared.Label.{Label}
 use Rattle.terms.specs.Labels.{byteOf}
 use Rattle.sheet.specs.declared.trailer.Trailer.{Trailer}
-use Rattle.sheet.specs.Numbers.{bigEndian, written, numbersOf}
+use Rattle.words.specs.Numbers.{bigEndian, written, numbersOf}
 use Rattle.sheet.specs.Trailer.{mark, fields, trailerFor}
 use Rattle.sheet.specs.Sheets.{checkWord, withCheck, sheetOf}
-use Rattle.sheet.proofs.BigEndian.{length-written}
+use Rattle.words.proofs.BigEndian.{length-written}
 
 pub length-fields : (t : Trailer) → length (fields t) ≡ 28
 unfolding fields written bigEndian
@@ -21,6 +24,19 @@ length-fields t = refl
 -- what stands before a sheet's check word
 pub length-front : (t : Trailer) (list : List ℕ) → length (written 8 list ++ fields t) ≡ 8 * length list + 28
 length-front t list = rw (length-append, length-written, length-fields)
+
+-- the last 32 bytes are the trailer, and those before it as its distance says the body
+pub trailer-at : (front last : List ℕ) → length last ≡ 32 → trailerBytes (front ++ last) ≡ last
+unfolding trailerBytes
+trailer-at front last e =
+    let place : length (front ++ last) - 32 ≡ length front = rw length-append (omega arith) in
+    rw place (drop-append-seam front last)
+
+pub sheet-at : (before sheet : List ℕ) (d : ℕ) → length sheet ≡ d + 32 → trailerOf (before ++ sheet) .distance ≡ d → sheetIn (before ++ sheet) ≡ sheet
+unfolding sheetIn
+sheet-at before sheet d size e =
+    let place : length (before ++ sheet) - 32 - d ≡ length before = rw length-append (omega arith) in
+    rw (e, place) (drop-append-seam before sheet)
 
 module _ (settings : Settings) (label : Label) where
   -- mark, then label and K, then the numbers: together the trailer's fields

@@ -1,55 +1,44 @@
 -- A sheet that is written reads again, with any bytes before it: the same label, settings and list.
-use mathlib.Core.Path.{_≡_, refl, sym, ap, _∙_}
+use mathlib.Core.Path.{_≡_, refl, ap, _∙_}
 use mathlib.Core.Bool.{true}
-use mathlib.Core.List.{List, [], _∷_, _++_, append-assoc, append-nil}
-use Prim.Native.Nat.{ℕ, zero, suc, _+_, _-_, _*_, _/_, _^_, _≤_, _<_}
+use mathlib.Core.List.{List, _++_, append-assoc}
+use Prim.Native.Nat.{ℕ, _+_, _-_, _*_, _^_, _≤_, _<_}
 use native.Mathlib.Omega.{arith}
-use native.Mathlib.Nat.{mod-eq-of-lt, mul-div-cancel-left}
+use native.Mathlib.Nat.{mod-eq-of-lt}
 use lib.Pow.{pow-mono}
-use lib.Dec.{lit<}
-use lib.ListN.{length, length-append}
-use lib.Seq.{take-append-seam, drop-append-seam, take-all}
-use borrow.Author.Tests.{eq-eqb, le-leb, ltb-true, leb-true}
-use Rattle.laws.proofs.Cases.{both-true}
+use lib.Dec.{leb, eqb, lit<}
+use lib.ListN.{length, length-append, take}
+use lib.Seq.{take-append-seam, drop-append-seam, take-all, take-at}
+use borrow.Author.Tests.{eq-eqb, le-leb}
 use Rattle.terms.specs.declared.Settings.{Settings}
 use Rattle.terms.specs.declared.Label.{Label}
 use Rattle.terms.specs.declared.Label.the-variants.{Practice, Live}
 use Rattle.terms.specs.Labels.{byteOf}
 use Rattle.terms.specs.Settings.{inRange}
 use Rattle.terms.proofs.Ranges.{ranges}
-use Rattle.lists.specs.WellFormed.{wellFormed, stepsFit, stepFits}
+use Rattle.lists.specs.WellFormed.{wellFormed}
+use Rattle.lists.proofs.Reaching.{reaches, entries-low}
 use Rattle.sheet.specs.declared.trailer.Trailer.{Trailer}
-use Rattle.sheet.specs.Numbers.{bigEndian, number, written, numbersOf, numberAt}
+use Rattle.words.specs.Numbers.{bigEndian, number, written, numbersOf, numberAt}
 use Rattle.sheet.specs.Trailer.{mostCuts, isLabel, fields, trailerIn, trailerFor, trailerRight}
 use Rattle.sheet.specs.Sheets.{checkWord, checked, withCheck, sheetOf}
-use Rattle.sheet.specs.Read.{same, trailerBytes, trailerOf, sheetIn, listIn, hasTrailer, hasList, readAnswer}
-use Rattle.sheet.proofs.BigEndian.{length-bigEndian, length-written, number-bigEndian}
+use Rattle.words.specs.Runs.{same}
+use Rattle.sheet.specs.Read.{trailerBytes, trailerOf, sheetIn, listIn, hasTrailer, hasList, readAnswer}
+use Rattle.words.proofs.BigEndian.{length-bigEndian, length-written, number-bigEndian}
 use Rattle.sheet.proofs.CheckWord.{checkWord-lt}
-use Rattle.sheet.proofs.Back.{Wide, numbers-written}
-use Rattle.sheet.specs.declared.Sheet.the-variants.{Read}
-use Rattle.sheet.proofs.Reading.{judged}
-use Rattle.sheet.proofs.Parts.{length-fields, length-front}
+use Rattle.words.proofs.Back.{Wide, numbersOf-written}
+use Rattle.sheet.specs.declared.Sheet.the-variants.{Read, Refused}
+use Rattle.terms.specs.declared.Refusal.the-variants.{OtherLabel, RoomTooShort}
+use Rattle.terms.specs.Answers.{unless}
+use Rattle.sheet.proofs.Reading.{Clean, clean-rows}
+use Rattle.sheet.proofs.Parts.{length-fields, length-front, trailer-at, sheet-at}
 
--- past an entry the rest of a list fits, and the entry rises
-step-taken : (minimum maximum before entry : ℕ) (rest : List ℕ) → stepsFit minimum maximum before (entry ∷ rest) ≡ true
-    → (before < entry) × (stepsFit minimum maximum entry rest ≡ true)
-unfolding stepsFit stepFits
-step-taken minimum maximum before entry rest h = let halves = both-true h in (ltb-true _ _ (both-true (halves .0) .0), halves .1)
-
--- a list whose steps fit ends at 2^40 or below, and so does each entry
-bounded : (minimum maximum before : ℕ) (list : List ℕ) → stepsFit minimum maximum before list ≡ true → before ≤ 2 ^ 40
-unfolding stepsFit
-bounded minimum maximum before [] h = leb-true _ _ h
-bounded minimum maximum before (entry ∷ rest) h =
-    let taken = step-taken minimum maximum before entry rest h in
-    omega (arith, taken .0, bounded minimum maximum entry rest (taken .1))
-
-entries-wide : (minimum maximum before : ℕ) (list : List ℕ) → stepsFit minimum maximum before list ≡ true → Wide 8 list
-entries-wide minimum maximum before [] h i = lit< tt
-entries-wide minimum maximum before (entry ∷ rest) h zero =
-    omega (arith, bounded minimum maximum entry rest (step-taken minimum maximum before entry rest h .1))
-entries-wide minimum maximum before (entry ∷ rest) h (suc i) =
-    entries-wide minimum maximum entry rest (step-taken minimum maximum before entry rest h .1) i
+-- the entries of a well-formed list are 8 bytes wide
+entries-wide : (minimum maximum : ℕ) (list : List ℕ) → wellFormed minimum maximum list ≡ true → Wide 8 list
+unfolding wellFormed
+entries-wide minimum maximum list well i =
+    let r = reaches minimum maximum 0 list well in
+    omega (arith, entries-low (r .0) i, r .1)
 
 -- a number of a width is the one that is read
 numberAt-back : (width n : ℕ) → n < 2 ^ (8 * width) → number (bigEndian width n) ≡ n
@@ -60,40 +49,14 @@ trailer-back : (t : Trailer) (rest : List ℕ) → inRange (t .settings) ≡ tru
 unfolding trailerIn fields written numberAt bigEndian
 trailer-back t rest ok zeros count distance =
     let r = ranges (t .settings) ok in
-    let target = numberAt-back 4 (t .settings .target) (omega (arith, r .low-target, pow-mono {i = t .settings .bits} {j = 31} (r .few-bits))) in
-    let minimum = numberAt-back 4 (t .settings .minimum) (omega (arith, r .ordered, r .bounded)) in
-    let maximum = numberAt-back 4 (t .settings .maximum) (omega (arith, r .bounded)) in
-    let zero-bytes = numberAt-back 2 (t .zeros) zeros in
-    let cuts = numberAt-back 4 (t .count) (omega arith) in
-    let back = numberAt-back 4 (t .distance) (omega arith) in
-    λ i. record {
-      label = t .label;
-      settings = record { bits = t .settings .bits; target = target i; minimum = minimum i; maximum = maximum i };
-      zeros = zero-bytes i;
-      count = cuts i;
-      distance = back i;
-    }
-
--- where the parts of a sheet stand, with any bytes before it
-module _ (before body front word : List ℕ) (has-fields : length front ≡ 28) (has-word : length word ≡ 4) where
-  trailer-part : trailerBytes (before ++ (body ++ front ++ word)) ≡ front ++ word
-  unfolding trailerBytes
-  trailer-part =
-      let regroup : before ++ (body ++ front ++ word) ≡ before ++ body ++ (front ++ word) = simp append-assoc in
-      let place : length (before ++ body ++ (front ++ word)) - 32 ≡ length (before ++ body) =
-      rw (length-append (before ++ body) (front ++ word), length-append front word, has-fields, has-word) (omega arith) in
-      rw (regroup, place) (drop-append-seam (before ++ body) (front ++ word))
-
-  sheet-part : trailerOf (before ++ (body ++ front ++ word)) .distance ≡ length body → sheetIn (before ++ (body ++ front ++ word)) ≡ body ++ front ++ word
-  unfolding sheetIn
-  sheet-part e =
-      let place : length (before ++ (body ++ front ++ word)) - 32 - length body ≡ length before =
-      rw (length-append before (body ++ front ++ word), length-append (body ++ front) word, length-append body front, has-fields, has-word) (omega arith) in
-      rw (e, place) (drop-append-seam before (body ++ front ++ word))
-
-  list-part : trailerOf (before ++ (body ++ front ++ word)) .distance ≡ length body → listIn (before ++ (body ++ front ++ word)) ≡ numbersOf 8 body
-  unfolding listIn
-  list-part e = rw (sheet-part e, e, append-assoc, take-append-seam body (front ++ word))
+    simp (
+      numberAt-back 4 (t .settings .target) (omega (arith, r .low-target, pow-mono {i = t .settings .bits} {j = 31} (r .few-bits))),
+      numberAt-back 4 (t .settings .minimum) (omega (arith, r .ordered, r .bounded)),
+      numberAt-back 4 (t .settings .maximum) (omega (arith, r .bounded)),
+      numberAt-back 2 (t .zeros) zeros,
+      numberAt-back 4 (t .count) (omega arith),
+      numberAt-back 4 (t .distance) (omega arith),
+    )
 
 numberAt-end : (l w : List ℕ) → length w ≤ 4 → numberAt (length l) 4 (l ++ w) ≡ number w
 unfolding numberAt
@@ -125,55 +88,46 @@ unfolding trailerRight trailerFor
 right-for settings label count before ok few room =
     simp (label-known label, ok, le-leb count mostCuts few, eq-eqb (8 * count) (8 * count) refl, le-leb (8 * count) before room)
 
--- a list that is written is read again
-list-back : (list : List ℕ) → Wide 8 list → numbersOf 8 (written 8 list) ≡ list
-unfolding numbersOf
-list-back list wide =
-    let count : length (written 8 list) / 8 ≡ length list = rw length-written (mul-div-cancel-left (length list) (lit< tt)) in
-    rw (count) (rw append-nil at (numbers-written 8 list [] wide))
-
 -- what the reader finds in a written sheet, with any bytes before it
 pub record Found (settings : Settings) (label : Label) (list bytes : List ℕ) : Type 0 where
-  pub present : hasTrailer bytes ≡ true
+  pub clean : Clean bytes
   pub trailer : trailerOf bytes ≡ trailerFor settings label (length list)
-  pub right : trailerRight (length bytes - 32) (trailerOf bytes) ≡ true
-  pub sound : checked (sheetIn bytes) ≡ true
   pub the-list : listIn bytes ≡ list
-  pub listed : hasList bytes ≡ true
 
 module _ (settings : Settings) (label : Label) (list before : List ℕ)
     (in-range : inRange settings ≡ true) (well-formed : wellFormed (settings .minimum) (settings .maximum) list ≡ true) (few : length list ≤ mostCuts) where
   pub found : Found settings label list (before ++ sheetOf settings label list)
-  unfolding sheetOf withCheck trailerOf trailerFor hasList hasTrailer wellFormed trailerRight
+  unfolding sheetOf withCheck trailerOf trailerFor listIn hasList
   found =
       let t = trailerFor settings label (length list) in
       let body = written 8 list in
       let word = bigEndian 4 (checkWord (numbersOf 4 (body ++ fields t))) in
-      let bytes = before ++ (body ++ fields t ++ word) in
+      let sheet = body ++ fields t ++ word in
+      let bytes = before ++ sheet in
       let has-word : length word ≡ 4 = length-bigEndian 4 (checkWord (numbersOf 4 (body ++ fields t))) in
-      let part : trailerBytes bytes ≡ fields t ++ word = trailer-part before body (fields t) word (length-fields t) has-word in
+      let size : length sheet ≡ 8 * length list + 32 = rw (length-append (body ++ fields t) word, length-front, has-word) (omega arith) in
+      let room : length bytes ≡ length before + 8 * length list + 32 = rw (length-append, size) (omega arith) in
+      let regroup : bytes ≡ before ++ body ++ (fields t ++ word) = simp append-assoc in
+      let part : trailerBytes bytes ≡ fields t ++ word = rw regroup (trailer-at (before ++ body) (fields t ++ word) (rw (length-append, length-fields, has-word))) in
       let trailer : trailerOf bytes ≡ t = rw part (trailer-back t word in-range (lit< tt) few (omega arith)) in
-      let distance : trailerOf bytes .distance ≡ length body = ap (λ (x : Trailer). x .distance) trailer ∙ sym (length-written 8 list) in
+      let distance : trailerOf bytes .distance ≡ 8 * length list = ap (λ (x : Trailer). x .distance) trailer in
+      let whole : sheetIn bytes ≡ sheet = sheet-at before sheet (8 * length list) size distance in
+      let first : take (8 * length list) sheet ≡ body =
+      rw (append-assoc body (fields t) word) (take-at body (fields t ++ word) (8 * length list) (length-written 8 list)) in
       let the-list : listIn bytes ≡ list =
-      list-part before body (fields t) word (length-fields t) has-word distance
-      ∙ list-back list (entries-wide (settings .minimum) (settings .maximum) 0 list well-formed) in
-      let size : length bytes ≡ length before + 8 * length list + 32 =
-      rw (length-append before (body ++ fields t ++ word), length-append (body ++ fields t) word, length-front, has-word) (omega arith) in
+      rw (whole, distance, first) (numbersOf-written 8 (lit< tt) list (entries-wide (settings .minimum) (settings .maximum) list well-formed)) in
+      let clean : Clean bytes =
       record {
-        present = present-for bytes word t (omega (arith, size)) part;
-        trailer = trailer;
-        right = rw trailer (right-for settings label (length list) (length bytes - 32) in-range few (omega (arith, size)));
-        sound = rw (sheet-part before body (fields t) word (length-fields t) has-word distance) (checked-with (body ++ fields t));
-        the-list = the-list;
+        present = present-for bytes word t (omega (arith, room)) part;
+        right = rw trailer (right-for settings label (length list) (length bytes - 32) in-range few (omega (arith, room)));
+        sound = rw whole (checked-with (body ++ fields t));
         listed = rw (the-list, trailer) well-formed;
-      }
+      } in
+      record { clean = clean; trailer = trailer; the-list = the-list }
 
-  module _ (room : ℕ) (roomy : length list ≤ room) where
-    -- the label, the settings and the list come back
-    pub reads-again : readAnswer (before ++ sheetOf settings label list) label room ≡ Read (byteOf label) settings (length list)
-    unfolding trailerFor
-    reads-again =
-        let bytes = before ++ sheetOf settings label list in
-        let f = found in
-        judged bytes label room (f .present) (f .right) (f .sound) (f .listed)
-        ∙ rw (f .trailer) (simp (eq-eqb (byteOf label) _ refl, le-leb (length list) room roomy))
+  -- the label and the room decide
+  pub found-decides : (asked : Label) (room : ℕ)
+      → readAnswer (before ++ sheetOf settings label list) asked room
+      ≡ unless (eqb (byteOf label) (byteOf asked)) (Refused OtherLabel) (unless (leb (length list) room) (Refused RoomTooShort) (Read (byteOf label) settings (length list)))
+  unfolding readAnswer trailerFor
+  found-decides asked room = clean-rows Refused _ (found .clean) ∙ rw (found .trailer)

@@ -1,4 +1,3 @@
-pub mod Numbers
 pub mod Trailer
 pub mod Sheets
 pub mod Write

@@ -1,11 +1,12 @@
 -- Reading a sheet, refusals in their order: document 01, "Numbers answered".
 use Prim.Native.Nat.{ℕ, _-_}
-use mathlib.Core.Bool.{Bool, true, false, _&&_}
-use mathlib.Core.List.{List, [], _∷_}
+use mathlib.Core.Bool.{Bool, _&&_}
+use mathlib.Core.List.{List}
 use lib.Dec.{leb, eqb}
 use lib.ListN.{length, take, drop}
 use Rattle.laws.specs.Over.{over}
 use Rattle.terms.specs.declared.Label.{Label}
+use Rattle.terms.specs.declared.Refusal.{Refusal}
 use Rattle.terms.specs.declared.Refusal.the-variants.{NoSheet, TrailerWrong, CheckWordWrong, ListNotWellFormed, OtherLabel, RoomTooShort}
 use Rattle.terms.specs.Answers.{unless}
 use Rattle.terms.specs.Labels.{byteOf}
@@ -13,15 +14,10 @@ use Rattle.lists.specs.WellFormed.{wellFormed}
 use Rattle.sheet.specs.declared.trailer.Trailer.{Trailer}
 use Rattle.sheet.specs.declared.Sheet.{Sheet}
 use Rattle.sheet.specs.declared.Sheet.the-variants.{Read, Refused}
-use Rattle.sheet.specs.Numbers.{numbersOf}
+use Rattle.words.specs.Numbers.{numbersOf}
+use Rattle.words.specs.Runs.{same}
 use Rattle.sheet.specs.Trailer.{mark, trailerIn, trailerRight}
 use Rattle.sheet.specs.Sheets.{checked}
-
-unfoldable pub same : List ℕ → List ℕ → Bool
-same [] [] = true
-same [] (b ∷ m) = false
-same (a ∷ l) [] = false
-same (a ∷ l) (b ∷ m) = eqb a b && same l m
 
 -- the trailer is the last 32 bytes
 unfoldable pub trailerBytes : List ℕ → List ℕ
@@ -48,17 +44,22 @@ hasList bytes =
     let settings = trailerOf bytes .settings in
     wellFormed (settings .minimum) (settings .maximum) (listIn bytes)
 
--- what reading into a list of room entries answers
+-- the rows that judge the bytes whatever is asked for: 12, 14, 13 and 10
+abbrev pub sheetRows {ℓ} : {A : Type ℓ} → List ℕ → (Refusal → A) → A → A
+sheetRows bytes wrong sound =
+    unless (hasTrailer bytes) (wrong NoSheet)
+    (unless (trailerRight (length bytes - 32) (trailerOf bytes)) (wrong TrailerWrong)
+    (unless (checked (sheetIn bytes)) (wrong CheckWordWrong)
+    (unless (hasList bytes) (wrong ListNotWellFormed) sound)))
+
+-- what reading into a list of room entries answers: those rows, then the label and the room
 unfoldable pub readAnswer : List ℕ → Label → (room : ℕ) → Sheet
 readAnswer bytes asked room =
     let t = trailerOf bytes in
-    unless (hasTrailer bytes) (Refused NoSheet)
-    (unless (trailerRight (length bytes - 32) t) (Refused TrailerWrong)
-    (unless (checked (sheetIn bytes)) (Refused CheckWordWrong)
-    (unless (hasList bytes) (Refused ListNotWellFormed)
+    sheetRows bytes Refused
     (unless (eqb (t .label) (byteOf asked)) (Refused OtherLabel)
     (unless (leb (t .count) room) (Refused RoomTooShort)
-    (Read (t .label) (t .settings) (t .count)))))))
+    (Read (t .label) (t .settings) (t .count))))
 
 -- what the lent list holds afterwards
 unfoldable pub listAfter : List ℕ → Label → List ℕ → List ℕ

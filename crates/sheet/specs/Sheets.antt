@@ -6,7 +6,7 @@ use lib.Dec.{eqb}
 use lib.ListN.{length, take}
 use Rattle.terms.specs.declared.Settings.{Settings}
 use Rattle.terms.specs.declared.Label.{Label}
-use Rattle.sheet.specs.Numbers.{bigEndian, written, numbersOf, numberAt}
+use Rattle.words.specs.Numbers.{bigEndian, written, numbersOf, numberAt}
 use Rattle.sheet.specs.Trailer.{fields, trailerFor}
 
 unfoldable pub total : List ℕ → ℕ

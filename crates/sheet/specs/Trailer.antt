@@ -10,7 +10,7 @@ use Rattle.terms.specs.declared.Label.the-variants.{Practice, Live}
 use Rattle.terms.specs.Settings.{inRange}
 use Rattle.terms.specs.Labels.{byteOf}
 use Rattle.sheet.specs.declared.trailer.Trailer.{Trailer}
-use Rattle.sheet.specs.Numbers.{bigEndian, written, numberAt}
+use Rattle.words.specs.Numbers.{bigEndian, written, numberAt}
 
 -- the four bytes CUTS
 abbrev pub mark : List ℕ

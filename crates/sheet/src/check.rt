@@ -1,9 +1,9 @@
 // The check word of a sheet.
-use crate::numbers::number_at;
+use words::numbers::number_at;
 ghost use mathlib.Core.Path.{_≡_};
 ghost use Prim.Native.Nat.{_≤_};
 ghost use lib.ListN.{length};
-ghost use Rattle.sheet.specs.Numbers.{numbersOf};
+ghost use Rattle.words.specs.Numbers.{numbersOf};
 ghost use Rattle.sheet.specs.Sheets.{checkWord, checked};
 
 // The word that, after the words of these bytes, makes all add to zero modulo 2^32.
@@ -28,8 +28,5 @@ pub fn is_checked(sheet: &[u8]) -> bool
     let before = sheet.len() - 4;
     let found = number_at(4, before, sheet);
     let right = check_word(&sheet[..before]) as u64;
-    if found != right {
-        return false;
-    }
-    true
+    found == right
 }

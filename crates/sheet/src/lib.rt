@@ -1,28 +1,24 @@
 // The cut sheet: a list of cuts with its settings and label, written to bytes and read back.
+mod body;
 mod check;
-mod numbers;
+mod judging;
 mod trailer;
 
+use body::take_offsets;
 use check::check_word;
-use check::is_checked;
-use numbers::number_at;
-use numbers::put_number;
-use numbers::put_numbers;
-use numbers::take_offsets;
+use judging::Verdict;
+use judging::judge;
 use terms::Answer;
 use terms::Label;
 use terms::Refusal;
 use terms::Settings;
-use trailer::is_marked;
-use trailer::is_right;
 use trailer::put_fields;
-use trailer::trailer_in;
+use words::numbers::put_number;
+use words::numbers::put_numbers;
 ghost use mathlib.Core.Path.{_≡_};
 ghost use Prim.Native.Nat.{_+_, _*_, _≤_, _<_};
 ghost use lib.ListN.{length};
 ghost use Rattle.laws.specs.Over.{over};
-ghost use Rattle.lists.specs.WellFormed.{wellFormed};
-ghost use Rattle.sheet.specs.Numbers.{numbersOf};
 ghost use Rattle.sheet.specs.Sheets.{sheetOf};
 ghost use Rattle.sheet.specs.Write.{writeAnswer, bytesAfter};
 ghost use Rattle.sheet.specs.Read.{readAnswer, listAfter};
@@ -73,64 +69,29 @@ pub fn write_sheet(settings: Settings, label: Label, list: &[u64], bytes: &mut [
     Answer::Wrote(size as u64)
 }
 
-// Whether the offsets of a body are a well-formed list.
-fn is_well_formed(minimum: u64, maximum: u64, body: &[u8]) -> bool
-    ensures { λ r. ⌜ r ≡ wellFormed minimum maximum (numbersOf 8 (now (body .entry))) ⌝ }
-{
-    let count = body.len() / 8;
-    let mut before: u64 = 0;
-    let mut i = 0;
-    while i < count {
-        let entry = number_at(8, 8 * i, body);
-        if !lists::step_fits(minimum, maximum, i + 1 == count, before, entry) {
-            return false;
-        }
-        before = entry;
-        i += 1;
-    }
-    if before > 0x100_0000_0000 {
-        return false;
-    }
-    true
-}
-
 // Reads the sheet at the end of the bytes, where it bears the label that is asked for, and writes its list.
 pub fn read_sheet(bytes: &[u8], asked: Label, list: &mut [u64]) -> Sheet
     ensures { λ r. ⌜ r ≡ readAnswer (now (bytes .entry)) asked (length (now (list .entry))) ⌝ }
     ensures { λ _. ⌜ now (list .exit) ≡ listAfter (now (bytes .entry)) asked (now (list .entry)) ⌝ }
 {
-    if bytes.len() < 32 {
-        return Sheet::Refused(Refusal::NoSheet);
-    }
-    let at = bytes.len() - 32;
-    let last = &bytes[at..];
-    if !is_marked(last) {
-        return Sheet::Refused(Refusal::NoSheet);
-    }
-    let trailer = trailer_in(last);
-    if !is_right(at as u64, trailer) {
-        return Sheet::Refused(Refusal::TrailerWrong);
-    }
-    let distance = trailer.distance as usize;
-    let sheet = &bytes[at - distance..];
-    if !is_checked(sheet) {
-        return Sheet::Refused(Refusal::CheckWordWrong);
-    }
-    let settings = trailer.settings;
-    let body = &sheet[..distance];
-    if !is_well_formed(settings.minimum, settings.maximum, body) {
-        return Sheet::Refused(Refusal::ListNotWellFormed);
-    }
+    let verdict = judge(bytes);
+    let trailer = match verdict {
+        Verdict::Sound(trailer) => trailer,
+        Verdict::Wrong(why) => return Sheet::Refused(why),
+    };
     let label = trailer.label;
+    let count = trailer.count;
     let wanted = asked.byte();
     if label != wanted {
         return Sheet::Refused(Refusal::OtherLabel);
     }
-    let count = trailer.count;
     if (list.len() as u64) < count {
         return Sheet::Refused(Refusal::RoomTooShort);
     }
-    take_offsets(body, list);
+    let at = bytes.len() - 32;
+    let start = at - trailer.distance as usize;
+    take_offsets(&bytes[start..at], list);
+    let settings = trailer.settings;
     Sheet::Read {
         label,
         settings,

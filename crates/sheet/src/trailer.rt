@@ -1,14 +1,16 @@
 // The trailer of a sheet, each way.
-use crate::numbers::number_at;
-use crate::numbers::put_numbers;
 use terms::Label;
 use terms::Settings;
+use words::numbers::number_at;
+use words::numbers::put_numbers;
+use words::runs::put_bytes;
+use words::runs::same_bytes;
 ghost use mathlib.Core.Path.{_≡_};
 ghost use Prim.Native.Nat.{_+_, _*_, _≤_, _<_};
-ghost use lib.ListN.{length, take};
+ghost use lib.ListN.{length};
 ghost use Rattle.laws.specs.Over.{overFrom};
-ghost use Rattle.sheet.specs.Trailer.{mark, fields, trailerIn, trailerFor, isLabel, trailerRight};
-ghost use Rattle.sheet.specs.Read.{same};
+ghost use Rattle.sheet.specs.Trailer.{fields, trailerIn, trailerFor, isLabel, trailerRight};
+ghost use Rattle.sheet.specs.Read.{hasTrailer};
 
 // The fields of a trailer, as they stand in its bytes.
 pub struct Trailer {
@@ -19,29 +21,15 @@ pub struct Trailer {
     pub distance: u64,
 }
 
-// Whether two runs of bytes are the same.
-pub fn same_bytes(a: &[u8], b: &[u8]) -> bool
-    ensures { λ r. ⌜ r ≡ same (now (a .entry)) (now (b .entry)) ⌝ }
+// Whether there is a trailer at the end of bytes, and it begins with the mark.
+pub fn has_trailer(bytes: &[u8]) -> bool
+    ensures { λ r. ⌜ r ≡ hasTrailer (now (bytes .entry)) ⌝ }
 {
-    if a.len() != b.len() {
+    if bytes.len() < 32 {
         return false;
     }
-    let mut i = 0;
-    while i < a.len() {
-        if a[i] != b[i] {
-            return false;
-        }
-        i += 1;
-    }
-    true
-}
-
-// Whether a trailer begins with the mark. It is inner: the caller sees that there are as many bytes.
-pub fn is_marked(trailer: &[u8]) -> bool
-    requires { ⌜ 4 ≤ length (now trailer) ⌝ }
-    ensures { λ r. ⌜ r ≡ same mark (take 4 (now (trailer .entry))) ⌝ }
-{
-    same_bytes(b"CUTS", &trailer[..4])
+    let at = bytes.len() - 32;
+    same_bytes(b"CUTS", &bytes[at..at + 4])
 }
 
 // The fields of a trailer. It is inner: the caller sees that there are 32 bytes.
@@ -74,10 +62,7 @@ fn is_label(byte: u8) -> bool
     if byte == b'P' {
         return true;
     }
-    if byte == b'L' {
-        return true;
-    }
-    false
+    byte == b'L'
 }
 
 // Whether a trailer's fields are right where so many bytes stand before it.
@@ -102,22 +87,7 @@ pub fn is_right(before: u64, trailer: Trailer) -> bool
     if distance != 8 * count {
         return false;
     }
-    if distance > before {
-        return false;
-    }
-    true
-}
-
-// Writes a run of bytes at a place. It is inner: the caller sees that there is room.
-pub fn put_bytes(part: &[u8], at: usize, bytes: &mut [u8])
-    requires { ⌜ at + length (now part) ≤ length (now bytes) ⌝ }
-    ensures { λ _. ⌜ now (bytes .exit) ≡ overFrom at (now (part .entry)) (now (bytes .entry)) ⌝ }
-{
-    let mut i = 0;
-    while i < part.len() {
-        bytes[at + i] = part[i];
-        i += 1;
-    }
+    distance <= before
 }
 
 // Writes the trailer of a sheet of count cuts, up to its check word, after a body of as many. It is inner: the caller sees that

@@ -3,7 +3,7 @@ use mathlib.Core.Path.{sym}
 use native.Mathlib.Omega.{arith}
 use borrow.Author.Needs.{needs}
 use lib.Seq.{length-take-le}
-use Rattle.sheet.proofs.BigEndian.{length-written}
+use Rattle.words.proofs.BigEndian.{length-written}
 use Rattle.sheet.proofs.Parts.{sheet-written}
 use Rattle.sheet.proofs.put_sheet.Statement.{statement}
 use Rattle.sheet.proofs.put_sheet.Tie as tie
@@ -11,32 +11,8 @@ use Rattle.sheet.proofs.put_sheet.Tie as tie
 put-numbers-requires : tie.Need-put-numbers-requires
 put-numbers-requires c κs = omega (arith, length-written 8 (c .before .before .before .args .list .now))
 
-put-fields-requires : tie.Need-put-fields-requires
-put-fields-requires c κs = search needs
-
-mul-end : tie.Need-mul-end
-mul-end c = search needs
-
-add-end : tie.Need-add-end
-add-end c = search needs
-
-slice-reshare-prefix-check-word : tie.Need-slice-reshare-prefix-check-word
-slice-reshare-prefix-check-word c = search needs
-
 slice-aggregate-check-word : tie.Need-slice-aggregate-check-word
 slice-aggregate-check-word c = sym (length-take-le _ _ (omega arith))
-
-check-word-requires : tie.Need-check-word-requires
-check-word-requires c κs = search needs
-
-cast-put-number : tie.Need-cast-put-number
-cast-put-number c = search needs
-
-put-number-requires : tie.Need-put-number-requires
-put-number-requires c κs = search needs
-
-same-length : tie.Need-same-length
-same-length c = search needs
 
 returns : tie.Need-returns
 returns c =
@@ -50,15 +26,5 @@ returns c =
 pub put-sheet-spec : {M : Type 1} → statement M
 put-sheet-spec =
     tie.close
-    (tie.spec
-    put-numbers-requires
-    put-fields-requires
-    mul-end
-    add-end
-    slice-reshare-prefix-check-word
-    slice-aggregate-check-word
-    check-word-requires
-    cast-put-number
-    put-number-requires
-    same-length
-    returns)
+    (tie.spec put-numbers-requires (λ c κs. search needs) (λ c. search needs) (λ c. search needs) (λ c. search needs)
+    slice-aggregate-check-word (λ c κs. search needs) (λ c. search needs) (λ c κs. search needs) (λ c. search needs) returns)

@@ -1,6 +1,6 @@
 -- `sheet::write_sheet` meets its contract: at each `return` the tests passed on the way decide the answer, and the answer what the bytes hold.
 use mathlib.Core.Path.{_≡_, sym}
-use mathlib.Core.Bool.{true, false}
+use mathlib.Core.Bool.{true}
 use mathlib.Core.List.{List}
 use Prim.Native.Nat.{ℕ}
 use lib.ListN.{length}
@@ -33,92 +33,43 @@ module _ (settings : Settings) (label : Label) (list bytes : List ℕ) where
   unfolding bytesAfter
   wrote e f = (sym e, rw (e, bytesAfter) f)
 
-settings-right : (c : tie.Else1) → inRange (c .before .before .before .before .args .settings) ≡ true
-settings-right c = test-passed (c .before .in-range .ensures) (c .if1 .left)
+in-range : (c : tie.Else1) → inRange (c .before .before .before .before .args .settings) ≡ true
+in-range c = test-passed (c .before .in-range .ensures) (c .if1 .left)
 
-list-right : (c : tie.Else2)
-    → wellFormed (c .before .before .before .before .before .before .args .settings .minimum) (c .before .before .before .before .before .before .args .settings .maximum) (c .before .before .before .before .before .before .args .list .now) ≡ true
-list-right c = test-passed (c .before .well-formed .ensures) (c .if2 .left)
-
-in-range-requires : tie.Need-in-range-requires
-in-range-requires c κs = search needs
+-- the settings and the list passed
+passed : (c : tie.Else2)
+    → let e = c .before .before .before .before .before .before .args in
+    (inRange (e .settings) ≡ true) × (wellFormed (e .settings .minimum) (e .settings .maximum) (e .list .now) ≡ true)
+passed c = (in-range (c .before .before), test-passed (c .before .well-formed .ensures) (c .if2 .left))
 
 returns : tie.Need-returns
 unfolding writeAnswer
-returns c =
-    let e = c .before .before .before .before .args in
-    let outside : inRange (e .settings) ≡ false = test-failed (c .before .in-range .ensures) (c .if1 .taken) in
-    refused (e .settings) (e .label) (e .list .now) (e .bytes .now) (simp outside)
-
-well-formed-requires : tie.Need-well-formed-requires
-well-formed-requires c κs = search needs
+returns c = refused _ _ _ _ (simp (test-failed (c .before .in-range .ensures) (c .if1 .taken)))
 
 returns-2 : tie.Need-returns-2
 unfolding writeAnswer
-returns-2 c =
-    let e = c .before .before .before .before .before .before .args in
-    let malformed : wellFormed (e .settings .minimum) (e .settings .maximum) (e .list .now) ≡ false = test-failed (c .before .well-formed .ensures) (c .if2 .taken) in
-    refused (e .settings) (e .label) (e .list .now) (e .bytes .now) (simp (
-      settings-right (c .before .before),
-      malformed,
-    ))
+returns-2 c = refused _ _ _ _ (simp (in-range (c .before .before), test-failed (c .before .well-formed .ensures) (c .if2 .taken)))
 
 returns-3 : tie.Need-returns-3
 unfolding writeAnswer
-returns-3 c =
-    let e = c .before .before .before .before .before .before .before .args in
-    refused (e .settings) (e .label) (e .list .now) (e .bytes .now) (simp (
-      settings-right (c .before .before .before),
-      list-right (c .before),
-      lt-leb _ _ (c .if3 .taken),
-    ))
-
-mul-size : tie.Need-mul-size
-mul-size c = search needs
-
-add-size : tie.Need-add-size
-add-size c = search needs
+returns-3 c = let p = passed (c .before) in refused _ _ _ _ (simp (p .0, p .1, lt-leb _ _ (c .if3 .taken)))
 
 returns-4 : tie.Need-returns-4
 unfolding writeAnswer
-returns-4 c =
-    let e = c .before .before .before .before .before .before .before .before .args in
-    refused (e .settings) (e .label) (e .list .now) (e .bytes .now) (simp (
-      settings-right (c .before .before .before .before),
-      list-right (c .before .before),
-      le-leb _ _ (c .before .if3 .left),
-      lt-leb _ _ (c .if4 .taken),
-    ))
+returns-4 c = let p = passed (c .before .before) in refused _ _ _ _ (simp (p .0, p .1, le-leb _ _ (c .before .if3 .left), lt-leb _ _ (c .if4 .taken)))
 
 put-sheet-requires : tie.Need-put-sheet-requires
-put-sheet-requires c κs = omega (arith, ranges _ (settings-right (c .before .before .before .before .before)) .few-bits)
-
-same-length : tie.Need-same-length
-same-length c = search needs
+put-sheet-requires c κs = omega (arith, ranges _ (in-range (c .before .before .before .before .before)) .few-bits)
 
 returns-5 : tie.Need-returns-5
 unfolding writeAnswer
 returns-5 c =
-    let e = c .before .before .before .before .before .before .before .before .before .before .before .before .args in
-    wrote (e .settings) (e .label) (e .list .now) (e .bytes .now) (simp (
-      settings-right (c .before .before .before .before .before .before .before .before),
-      list-right (c .before .before .before .before .before .before),
-      le-leb _ _ (c .before .before .before .before .before .if3 .left),
-      le-leb _ _ (c .before .before .before .before .if4 .left),
-    )) (c .before .before .put-sheet .ensures)
+    let at = c .before .before .before .before in
+    let p = passed (at .before .before) in
+    wrote _ _ _ _ (simp (p .0, p .1, le-leb _ _ (at .before .if3 .left), le-leb _ _ (at .if4 .left))) (c .before .before .put-sheet .ensures)
 
 pub write-sheet-spec : {M : Type 1} → statement M
 write-sheet-spec =
     tie.close
-    (tie.spec
-    in-range-requires
-    returns
-    well-formed-requires
-    returns-2
-    returns-3
-    mul-size
-    add-size
-    returns-4
-    put-sheet-requires
-    same-length
-    returns-5)
+    (tie.spec (λ c κs. search needs) returns (λ c κs. search needs) returns-2 returns-3 (λ c. search needs) (λ c. search needs) returns-4
+    put-sheet-requires (λ c. search needs) returns-5)

@@ -4,7 +4,7 @@ use Prim.Native.Nat.{_-_, _/_, _%_, _^_, _≤_, _<_}
 use native.Mathlib.Omega.{arith}
 use borrow.Author.Needs.{needs}
 use lib.ListN.{length}
-use Rattle.sheet.specs.Numbers.{numbers, numbersOf}
+use Rattle.words.specs.Numbers.{numbers, numbersOf}
 use Rattle.sheet.specs.Sheets.{total}
 use Rattle.sheet.proofs.CheckWord.{sum-more, check-is}
 use Rattle.sheet.proofs.check.check_word.Statement.{statement}
@@ -20,29 +20,8 @@ loop-holds : tie.Need-loop-holds Inv-loop μ-loop
 unfolding numbers total
 loop-holds c = (search needs, refl)
 
-mul-number-at : tie.Need-mul-number-at Inv-loop μ-loop
-mul-number-at c = search needs
-
-number-at-requires : tie.Need-number-at-requires Inv-loop μ-loop
-number-at-requires c κs = search needs
-
-cast-word : tie.Need-cast-word Inv-loop μ-loop
-cast-word c = search needs
-
-wrapping-add-u32-requires : tie.Need-wrapping-add-u32-requires Inv-loop μ-loop
-wrapping-add-u32-requires c κs = search needs
-
-add-i : tie.Need-add-i Inv-loop μ-loop
-add-i c = search needs
-
-loop-less : tie.Need-loop-less Inv-loop μ-loop
-loop-less c = search needs
-
 loop-again : tie.Need-loop-again Inv-loop μ-loop
 loop-again c = (search needs, c .wrapping-add-u32 .ensures ∙ rw (c .before .number-at .ensures .0, c .before .before .before .loop .inv .1) (sum-more _ _))
-
-wrapping-sub-u32-requires : tie.Need-wrapping-sub-u32-requires Inv-loop μ-loop
-wrapping-sub-u32-requires c κs = search needs
 
 returns : tie.Need-returns Inv-loop μ-loop
 unfolding numbersOf
@@ -54,16 +33,5 @@ returns c =
 pub check-word-spec : {M : Type 1} → statement M
 check-word-spec =
     tie.close
-    (tie.spec
-    Inv-loop
-    μ-loop
-    loop-holds
-    mul-number-at
-    number-at-requires
-    cast-word
-    wrapping-add-u32-requires
-    add-i
-    loop-less
-    loop-again
-    wrapping-sub-u32-requires
-    returns)
+    (tie.spec Inv-loop μ-loop loop-holds (λ c. search needs) (λ c κs. search needs) (λ c. search needs) (λ c κs. search needs)
+    (λ c. search needs) (λ c. search needs) loop-again (λ c κs. search needs) returns)

@@ -3,39 +3,18 @@ use mathlib.Core.Path.{sym}
 use lib.Seq.{length-take-le}
 use native.Mathlib.Omega.{arith}
 use borrow.Author.Needs.{needs}
-use Rattle.sheet.proofs.CheckWord.{checked-true, checked-false}
+use Rattle.sheet.specs.Sheets.{checked}
 use Rattle.sheet.proofs.check.is_checked.Statement.{statement}
 use Rattle.sheet.proofs.check.is_checked.Tie as tie
-
-sub-before : tie.Need-sub-before
-sub-before c = search needs
-
-number-at-requires : tie.Need-number-at-requires
-number-at-requires c κs = search needs
 
 slice-aggregate-check-word : tie.Need-slice-aggregate-check-word
 slice-aggregate-check-word c = sym (length-take-le _ _ (omega arith))
 
-check-word-requires : tie.Need-check-word-requires
-check-word-requires c κs = search needs
-
-cast-right : tie.Need-cast-right
-cast-right c = search needs
-
 returns : tie.Need-returns
-returns c = sym (checked-false _ (c .before .before .before .number-at .ensures .0) (c .before .check-word .ensures) (c .if1 .taken))
-
-returns-2 : tie.Need-returns-2
-returns-2 c = sym (checked-true _ (c .before .before .before .number-at .ensures .0) (c .before .check-word .ensures) (c .if1 .left))
+unfolding checked
+returns c = rw (← (c .before .before .number-at .ensures .0), ← (c .check-word .ensures))
 
 pub is-checked-spec : {M : Type 1} → statement M
 is-checked-spec =
     tie.close
-    (tie.spec
-    sub-before
-    number-at-requires
-    slice-aggregate-check-word
-    check-word-requires
-    cast-right
-    returns
-    returns-2)
+    (tie.spec (λ c. search needs) (λ c κs. search needs) slice-aggregate-check-word (λ c κs. search needs) (λ c. search needs) returns)

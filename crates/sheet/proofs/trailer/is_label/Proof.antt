@@ -10,11 +10,7 @@ returns c = simp (eq-eqb _ _ (c .if1 .taken))
 
 returns-2 : tie.Need-returns-2
 unfolding isLabel
-returns-2 c = simp (ne-eqb _ _ (c .before .if1 .left), eq-eqb _ _ (c .if2 .taken))
-
-returns-3 : tie.Need-returns-3
-unfolding isLabel
-returns-3 c = simp (ne-eqb _ _ (c .before .if1 .left), ne-eqb _ _ (c .if2 .left))
+returns-2 c = simp (ne-eqb _ _ (c .if1 .left))
 
 pub is-label-spec : {M : Type 1} → statement M
-is-label-spec = tie.close (tie.spec returns returns-2 returns-3)
+is-label-spec = tie.close (tie.spec returns returns-2)

@@ -5,35 +5,8 @@ use Rattle.sheet.specs.Trailer.{trailerIn}
 use Rattle.sheet.proofs.trailer.trailer_in.Statement.{statement}
 use Rattle.sheet.proofs.trailer.trailer_in.Tie as tie
 
-shared-slice-read-bits : tie.Need-shared-slice-read-bits
-shared-slice-read-bits c = search needs
-
 cast-bits : tie.Need-cast-bits
 cast-bits c = omega (arith, c .shared-slice-known2 .given 5)
-
-number-at-requires : tie.Need-number-at-requires
-number-at-requires c κs = search needs
-
-cast-target : tie.Need-cast-target
-cast-target c = search needs
-
-number-at-requires-2 : tie.Need-number-at-requires-2
-number-at-requires-2 c κs = search needs
-
-number-at-requires-3 : tie.Need-number-at-requires-3
-number-at-requires-3 c κs = search needs
-
-shared-slice-read-t7 : tie.Need-shared-slice-read-t7
-shared-slice-read-t7 c = search needs
-
-number-at-requires-4 : tie.Need-number-at-requires-4
-number-at-requires-4 c κs = search needs
-
-number-at-requires-5 : tie.Need-number-at-requires-5
-number-at-requires-5 c κs = search needs
-
-number-at-requires-6 : tie.Need-number-at-requires-6
-number-at-requires-6 c κs = search needs
 
 returns : tie.Need-returns
 unfolding trailerIn
@@ -50,15 +23,5 @@ returns c =
 pub trailer-in-spec : {M : Type 1} → statement M
 trailer-in-spec =
     tie.close
-    (tie.spec
-    shared-slice-read-bits
-    cast-bits
-    number-at-requires
-    cast-target
-    number-at-requires-2
-    number-at-requires-3
-    shared-slice-read-t7
-    number-at-requires-4
-    number-at-requires-5
-    number-at-requires-6
-    returns)
+    (tie.spec (λ c. search needs) cast-bits (λ c κs. search needs) (λ c. search needs) (λ c κs. search needs) (λ c κs. search needs)
+    (λ c. search needs) (λ c κs. search needs) (λ c κs. search needs) (λ c κs. search needs) returns)

@@ -1,0 +1,71 @@
+-- A right trailer's facts by name, and the parts of a sheet as code lends them: they are those of the definition.
+use mathlib.Core.Path.{_≡_, _∙_}
+use mathlib.Core.Bool.{Bool, true}
+use mathlib.Core.List.{List}
+use Prim.Native.Nat.{ℕ, _+_, _-_, _*_, _/_, _≤_}
+use native.Mathlib.Nat.{le-refl}
+use native.Mathlib.Omega.{arith}
+use lib.Dec.{leb}
+use lib.ListN.{length, take, drop, length-drop}
+use lib.Seq.{take-all, length-take-le}
+use borrow.Author.Tests.{le-leb, leb-true, eqb-true}
+use Rattle.laws.proofs.Cases.{both-true}
+use Rattle.terms.specs.Settings.{inRange}
+use Rattle.words.specs.Numbers.{numbersOf}
+use Rattle.words.specs.Runs.{same}
+use Rattle.sheet.specs.declared.trailer.Trailer.{Trailer}
+use Rattle.sheet.specs.Trailer.{mark, mostCuts, isLabel, trailerIn, trailerRight}
+use Rattle.sheet.specs.Read.{trailerBytes, trailerOf, sheetIn, listIn, hasTrailer}
+
+pub record Right (before : ℕ) (t : Trailer) : Type 0 where
+  pub zeros : t .zeros ≡ 0
+  pub distance : t .distance ≡ 8 * t .count
+  pub body : t .distance ≤ before
+
+pub right-facts : {before : ℕ} {t : Trailer} → trailerRight before t ≡ true → Right before t
+unfolding trailerRight
+right-facts {t = t} ok =
+    let a = both-true {a = isLabel (t .label)} ok in
+    let b = both-true {a = inRange (t .settings)} (a .1) in
+    let c = both-true (b .1) in
+    let d = both-true {a = leb (t .count) mostCuts} (c .1) in
+    let e = both-true (d .1) in
+    record { zeros = eqb-true _ _ (c .0); distance = eqb-true _ _ (e .0); body = leb-true _ _ (e .1) }
+
+module _ (bytes : List ℕ) where
+  -- bytes from a place on, as they are lent
+  lent-is : (k : ℕ) → take (length bytes - k) (drop k bytes) ≡ drop k bytes
+  lent-is k = take-all (length bytes - k) (drop k bytes) (rw length-drop (le-refl _))
+
+  pub lent-long : (k n : ℕ) → k + n ≤ length bytes → n ≤ length (take (length bytes - k) (drop k bytes))
+  lent-long k n h = rw (lent-is k, length-drop) (omega arith)
+
+  pub marked-is : {r : Bool} → 32 ≤ length bytes → r ≡ same mark (take (length bytes - 32 + 4 - (length bytes - 32)) (drop (length bytes - 32) bytes)) → r ≡ hasTrailer bytes
+  unfolding hasTrailer trailerBytes
+  marked-is h e =
+      let four : length bytes - 32 + 4 - (length bytes - 32) ≡ 4 = omega arith in
+      rw (le-leb 32 (length bytes) h) (rw four at e)
+
+  pub there : hasTrailer bytes ≡ true → (32 ≤ length bytes) × (same mark (take 4 (trailerBytes bytes)) ≡ true)
+  unfolding hasTrailer
+  there present = let halves = both-true present in (leb-true _ _ (halves .0), halves .1)
+
+  pub trailer-is : {t : Trailer} → t ≡ trailerIn (take (length bytes - (length bytes - 32)) (drop (length bytes - 32) bytes)) → t ≡ trailerOf bytes
+  unfolding trailerOf trailerBytes
+  trailer-is e = e ∙ rw (lent-is (length bytes - 32))
+
+  module _ {t : Trailer} (e : t ≡ trailerOf bytes) (fits : t .distance ≤ length bytes - 32) where
+    whole : length bytes - 32 - (length bytes - 32 - t .distance) ≡ t .distance
+    whole = omega arith
+
+    pub sheet-is : take (length bytes - (length bytes - 32 - t .distance)) (drop (length bytes - 32 - t .distance) bytes) ≡ sheetIn bytes
+    unfolding sheetIn
+    sheet-is = rw e (lent-is (length bytes - 32 - trailerOf bytes .distance))
+
+    pub list-is : numbersOf 8 (take (length bytes - 32 - (length bytes - 32 - t .distance)) (drop (length bytes - 32 - t .distance) bytes)) ≡ listIn bytes
+    unfolding listIn sheetIn
+    list-is = rw (whole, e)
+
+    pub list-room : {room : ℕ} → t .distance ≡ 8 * t .count → t .count ≤ room
+        → length (take (length bytes - 32 - (length bytes - 32 - t .distance)) (drop (length bytes - 32 - t .distance) bytes)) / 8 ≤ room
+    list-room counted h = rw (whole, length-take-le (t .distance) (drop (length bytes - 32 - t .distance) bytes) (rw length-drop (omega arith))) (omega arith)

@@ -1,0 +1,3 @@
+pub mod BigEndian
+pub mod Back
+pub mod Same
