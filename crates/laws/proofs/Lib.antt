@@ -1,6 +1,5 @@
 pub mod Bytes
 pub mod Cases
-pub mod Copies
 pub mod Last
 pub mod Sets
 pub mod Tables

@@ -2,23 +2,11 @@
 ghost use mathlib.Core.Path.{_≡_};
 ghost use Prim.Native.Nat.{_+_, _≤_};
 ghost use lib.ListN.{length, take};
-ghost use lib.Seq.{paste};
 ghost use Rattle.signature.specs.Signatures.{window};
 ghost use Rattle.carry.specs.Carries.{slidBy};
 ghost use Rattle.taking.specs.Taking.{Heads};
 use cutting::search::smaller;
-
-// Copies all of src into dst from place at on.
-fn copy_in(dst: &mut [u8], at: usize, src: &[u8])
-    requires { ⌜ at + length (now src) ≤ length (now dst) ⌝ }
-    ensures { λ _. ⌜ now (dst .exit) ≡ paste (now (dst .entry)) at (now (src .entry)) (length (now (src .entry))) ⌝ }
-{
-    let mut i = 0;
-    while i < src.len() {
-        dst[at + i] = src[i];
-        i += 1;
-    }
-}
+use words::runs::put_bytes;
 
 // The window and, after it, the block's first 48 bytes, as many as there are.
 pub fn joined(window: [u8; 48], block: &[u8]) -> [u8; 96]
@@ -26,8 +14,8 @@ pub fn joined(window: [u8; 48], block: &[u8]) -> [u8; 96]
 {
     let mut both = [0; 96];
     let count = smaller(48, block.len());
-    copy_in(&mut both, 0, &window);
-    copy_in(&mut both, 48, &block[..count]);
+    put_bytes(&window, 0, &mut both);
+    put_bytes(&block[..count], 48, &mut both);
     both
 }
 
@@ -38,7 +26,7 @@ fn window_at(bytes: &[u8], from: usize) -> [u8; 48]
 {
     let mut found = [0; 48];
     let end = from + 48;
-    copy_in(&mut found, 0, &bytes[from..end]);
+    put_bytes(&bytes[from..end], 0, &mut found);
     found
 }
 

@@ -1,14 +1,15 @@
--- `taking::window::joined` meets its contract: the two copies stand side by side.
+-- `taking::window::joined` meets its contract: what is written stands side by side.
 use borrow.Author.Needs.{needs}
 use denote.Ref.{now}
-use Prim.Native.Nat.{ℕ, _+_, _≤_, min}
-use mathlib.Core.Path.{_≡_, sym, ap, _∙_}
+use Prim.Native.Nat.{ℕ, _+_, min}
+use mathlib.Core.Path.{_≡_, sym, ap, ap₂, _∙_}
 use mathlib.Core.List.{List, _++_}
 use native.Mathlib.Omega.{arith}
-use lib.ListN.{length, take, replicate}
-use lib.Seq.{paste, take-all, length-take-le}
+use lib.ListN.{length, take, replicate, length-append}
+use lib.Seq.{take-all, length-take-le}
+use Rattle.laws.specs.Over.{overFrom}
 use Rattle.laws.proofs.Cases.{by-lt}
-use Rattle.laws.proofs.Copies.{side-by-side}
+use Rattle.laws.proofs.Writing.{take-over, overFrom-zero, overFrom-over}
 use Rattle.taking.proofs.window.joined.Statement.{statement}
 use Rattle.taking.proofs.window.joined.Tie as tie
 
@@ -26,54 +27,41 @@ first-bytes block n e =
     (λ h. take-all n block (omega arith) ∙ sym (take-all 48 block (omega arith)))
     (λ h. let same : n ≡ 48 = omega arith in ap (λ k. take k block) same)
 
-smaller-requires : tie.Need-smaller-requires
-smaller-requires c κs = search needs
+side-by-side : (w s z : List ℕ) → take (length w + length s) (overFrom (length w) s (overFrom 0 w z)) ≡ w ++ s
+side-by-side w s z =
+    ap (λ l. take (length w + length s) (overFrom (length w) s l)) (overFrom-zero w z)
+    ∙ ap₂ take (sym (length-append w s)) (overFrom-over w s z) ∙ take-over (w ++ s) z
 
-slice-aggregate-copy-in : tie.Need-slice-aggregate-copy-in
-slice-aggregate-copy-in c = search needs
+both-is : (w block z first both : List ℕ) (count : ℕ) → length w ≡ 48 → count ≡ min 48 (length block)
+    → first ≡ overFrom 0 w z → both ≡ overFrom 48 (take count block) first → take (48 + min 48 (length block)) both ≡ w ++ take 48 block
+both-is w block z first both count long is e f =
+    let some = part block count is in
+    let all : 48 + min 48 (length block) ≡ length w + length (take count block) = omega arith in
+    ap₂ take all (f ∙ ap₂ (λ n l. overFrom n (take count block) l) (sym long) e)
+    ∙ side-by-side w (take count block) z ∙ ap (λ l. w ++ l) (first-bytes block count is)
 
-slice-aggregate-copy-in-2 : tie.Need-slice-aggregate-copy-in-2
-slice-aggregate-copy-in-2 c = search needs
+slice-aggregate-put-bytes-3 : tie.Need-slice-aggregate-put-bytes-3
+slice-aggregate-put-bytes-3 c = sym (part _ _ (c .before .before .before .before .before .smaller .ensures))
 
-copy-in-requires : tie.Need-copy-in-requires
-copy-in-requires c κs = search needs
-
-slice-aggregate-copy-in-3 : tie.Need-slice-aggregate-copy-in-3
-slice-aggregate-copy-in-3 c = search needs
-
-slice-aggregate-copy-in-4 : tie.Need-slice-aggregate-copy-in-4
-slice-aggregate-copy-in-4 c = sym (part _ _ (c .before .before .before .before .before .before .smaller .ensures))
-
-copy-in-requires-2 : tie.Need-copy-in-requires-2
-copy-in-requires-2 c κs =
-    let block = now (c .before .before .before .before .before .before .before .before .args .block) in
-    omega (arith, c .before .before .before .copy-in .kept .0, part block _ (c .before .before .before .before .before .before .smaller .ensures), c .before .before .before .before .before .before .smaller .ensures)
+put-bytes-requires-2 : tie.Need-put-bytes-requires-2
+put-bytes-requires-2 c κs =
+    let is = c .before .before .before .before .before .before .smaller .ensures in
+    omega (arith, c .before .before .before .put-bytes .kept .1 .1 .0, part (now (c .before .before .before .before .before .before .before .before .args .block)) _ is)
 
 returns : tie.Need-returns
 returns c =
     let start = c .before .before .before .before .before .before .before .before .before .before in
-    let w = start .args .t1 in
-    let block = now (start .args .block) in
-    let count = c .before .before .before .before .before .before .before .before .smaller .result in
-    let is = c .before .before .before .before .before .before .before .before .smaller .ensures in
-    let long = whole start in
-    let some = part block count is in
-    let room : length w + length (take count block) ≤ 96 = omega arith in
-    let all : 48 + min 48 (length block) ≡ length w + length (take count block) = omega arith in
-    ap (λ n. take n (c .before .copy-in2 .last .0)) all
-    ∙ side-by-side (replicate 96 0) w (take count block) (c .before .before .before .before .before .copy-in .last .0) (c .before .copy-in2 .last .0) room
-    (c .before .before .before .before .before .copy-in .ensures) (c .before .copy-in2 .ensures ∙ ap (λ n. paste (c .before .before .before .before .before .copy-in .last .0) n (take count block) (length (take count block))) (sym long))
-    ∙ ap (λ l. w ++ l) (first-bytes block count is)
+    both-is (start .args .t1) (now (start .args .block)) (replicate 96 0) _ _ _ (whole start) (c .before .before .before .before .before .before .before .before .smaller .ensures) (c .before .before .before .before .before .put-bytes .ensures) (c .before .put-bytes2 .ensures)
 
 pub joined-spec : {M : Type 1} → statement M
 joined-spec =
     tie.close
     (tie.spec
-    smaller-requires
-    slice-aggregate-copy-in
-    slice-aggregate-copy-in-2
-    copy-in-requires
-    slice-aggregate-copy-in-3
-    slice-aggregate-copy-in-4
-    copy-in-requires-2
+    (λ c κs. search needs)
+    (λ c. search needs)
+    (λ c. search needs)
+    (λ c κs. search needs)
+    slice-aggregate-put-bytes-3
+    (λ c. search needs)
+    put-bytes-requires-2
     returns)

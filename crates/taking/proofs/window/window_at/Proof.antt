@@ -1,50 +1,27 @@
--- `taking::window::window_at` meets its contract: the copy fills the array.
+-- `taking::window::window_at` meets its contract: what is written fills the array.
 use borrow.Author.Needs.{needs}
 use denote.Ref.{now}
-use Prim.Native.Nat.{ℕ, _+_, _-_}
+use Prim.Native.Nat.{ℕ, _+_, _-_, _≤_}
 use mathlib.Core.Path.{_≡_, ap, _∙_}
 use mathlib.Core.List.{List}
 use native.Mathlib.Omega.{arith}
 use lib.ListN.{length, take, drop, replicate, length-take, length-drop}
-use Rattle.laws.proofs.Copies.{filled}
+use Rattle.laws.specs.Over.{overFrom}
+use Rattle.laws.proofs.Writing.{over-full, overFrom-zero}
+use Rattle.signature.specs.Signatures.{window}
 use Rattle.taking.proofs.window.window_at.Statement.{statement}
 use Rattle.taking.proofs.window.window_at.Tie as tie
 
-add-end : tie.Need-add-end
-add-end c = search needs
-
-slice-aggregate-copy-in : tie.Need-slice-aggregate-copy-in
-slice-aggregate-copy-in c = search needs
-
-sub-copy-in : tie.Need-sub-copy-in
-sub-copy-in c = search needs
-
-part-copy-in-start : tie.Need-part-copy-in-start
-part-copy-in-start c = search needs
-
-part-copy-in-end : tie.Need-part-copy-in-end
-part-copy-in-end c = search needs
-
-copy-in-requires : tie.Need-copy-in-requires
-copy-in-requires c κs = search needs
+found-is : (bytes : List ℕ) (from : ℕ) → from + 48 ≤ length bytes → overFrom 0 (take (from + 48 - from) (drop from bytes)) (replicate 48 0) ≡ window bytes from
+found-is bytes from h =
+    let size : from + 48 - from ≡ 48 = omega arith in
+    let long : 48 ≡ length (take (from + 48 - from) (drop from bytes)) = simp (length-take, length-drop) (omega arith) in
+    overFrom-zero _ (replicate 48 0) ∙ over-full _ (replicate 48 0) long ∙ ap (λ n. take n (drop from bytes)) size
 
 returns : tie.Need-returns
-returns c =
-    let start = c .before .before .before .before .before in
-    let bytes : List ℕ = now (start .args .bytes) in
-    let from : ℕ = start .args .from in
-    let size : from + 48 - from ≡ 48 = omega arith in
-    let long : length (take (from + 48 - from) (drop from bytes)) ≡ 48 = simp (length-take, length-drop) (omega (arith, start .pre)) in
-    filled (replicate 48 0) (take (from + 48 - from) (drop from bytes)) (c .before .copy-in .last .0) long (c .before .copy-in .ensures) ∙ ap (λ n. take n (drop from bytes)) size
+returns c = let start = c .before .before .before .before .before in c .before .put-bytes .ensures ∙ found-is (now (start .args .bytes)) (start .args .from) (start .pre)
 
 pub window-at-spec : {M : Type 1} → statement M
 window-at-spec =
     tie.close
-    (tie.spec
-    add-end
-    slice-aggregate-copy-in
-    sub-copy-in
-    part-copy-in-start
-    part-copy-in-end
-    copy-in-requires
-    returns)
+    (tie.spec (λ c. search needs) (λ c. search needs) (λ c. search needs) (λ c. search needs) (λ c. search needs) (λ c κs. search needs) returns)
