@@ -22,15 +22,6 @@ sound c =
     let fine = fine-parts (first .args .carry) (c .before .before .judge .ensures) (c .enum-told .given .1) in
     usable (first .args .carry) (fine .0) (fine .1) whole
 
-judge-requires : tie.Need-judge-requires
-judge-requires c κs = search needs
-
-enum-known-verdict : tie.Need-enum-known-verdict
-enum-known-verdict c = search needs
-
-refuse-requires : tie.Need-refuse-requires
-refuse-requires c κs = search needs
-
 returns : tie.Need-returns
 returns c =
     let at = c .before .before .before .before in
@@ -38,14 +29,8 @@ returns c =
     let made = block-wrong (first .args .carry) (now (first .args .bytes)) (now (first .args .list)) (at .judge .ensures) (c .before .before .verdict .given .1) in
     (c .refuse .ensures ∙ made .0, made .1)
 
-enum-told : tie.Need-enum-told
-enum-told c = search needs
-
 add-if1 : tie.Need-add-if1
 add-if1 c = omega (arith, sound (c .before) .short, start (c .before) .good .1 .0 .1)
-
-refuse-requires-2 : tie.Need-refuse-requires-2
-refuse-requires-2 c κs = search needs
 
 returns-2 : tie.Need-returns-2
 returns-2 c =
@@ -61,9 +46,6 @@ add-if2 : tie.Need-add-if2
 add-if2 c =
     let first = start (c .before .before) in
     omega (arith, div-le-self (length (now (first .args .bytes))) (first .args .carry .settings .minimum), first .good .1 .0 .1)
-
-refuse-requires-3 : tie.Need-refuse-requires-3
-refuse-requires-3 c κs = search needs
 
 returns-3 : tie.Need-returns-3
 returns-3 c =
@@ -85,9 +67,6 @@ take-block-requires c κs =
     let at = c .before .before .before .before .before in
     (fine-parts (start at .args .carry) (at .before .before .judge .ensures) (at .enum-told .given .1), (omega (arith, c .before .if3 .left), c .before .before .before .if1 .left))
 
-same-length : tie.Need-same-length
-same-length c = search needs
-
 returns-5 : tie.Need-returns-5
 returns-5 c =
     let at = c .before .before .before .before .before .before .before .before in
@@ -101,19 +80,19 @@ pub block-spec : {M : Type 1} → statement M
 block-spec =
     tie.close
     (tie.spec
-    judge-requires
-    enum-known-verdict
-    refuse-requires
+    (λ c κs. search needs)
+    (λ c. search needs)
+    (λ c κs. search needs)
     returns
-    enum-told
+    (λ c. search needs)
     add-if1
-    refuse-requires-2
+    (λ c κs. search needs)
     returns-2
     div-if2
     add-if2
-    refuse-requires-3
+    (λ c κs. search needs)
     returns-3
     returns-4
     take-block-requires
-    same-length
+    (λ c. search needs)
     returns-5)

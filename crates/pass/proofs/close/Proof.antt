@@ -7,47 +7,20 @@ use Rattle.pass.proofs.Closing.{close-wrong, close-short, close-writes,
 use Rattle.pass.proofs.close.Statement.{statement}
 use Rattle.pass.proofs.close.Tie as tie
 
-judge-requires : tie.Need-judge-requires
-judge-requires c κs = search needs
-
-enum-known-verdict : tie.Need-enum-known-verdict
-enum-known-verdict c = search needs
-
-refuse-requires : tie.Need-refuse-requires
-refuse-requires c κs = search needs
-
 returns : tie.Need-returns
 returns c =
     let done = close-wrong _ (now (c .before .before .before .before .before .before .args .list)) (c .before .before .before .before .judge .ensures) (c .before .before .verdict .given .1) in
     (c .refuse .ensures ∙ done .0, done .1)
-
-enum-told : tie.Need-enum-told
-enum-told c = search needs
-
-refuse-requires-2 : tie.Need-refuse-requires-2
-refuse-requires-2 c κs = search needs
 
 returns-2 : tie.Need-returns-2
 returns-2 c =
     let done = close-short _ (now (c .before .before .before .before .before .before .args .list)) (c .before .before .before .before .judge .ensures) (c .before .before .enum-told .given .1) (c .before .if1 .taken) in
     (c .refuse2 .ensures ∙ done .0, done .1)
 
-slice-write-list : tie.Need-slice-write-list
-slice-write-list c = search needs
-
-shut-requires : tie.Need-shut-requires
-shut-requires c κs = search needs
-
-same-length : tie.Need-same-length
-same-length c = search needs
-
 returns-3 : tie.Need-returns-3
 returns-3 c =
     let done = close-writes _ (now (c .before .before .before .before .before .before .before .before .args .list)) (c .before .before .before .before .before .before .judge .ensures) (c .before .before .before .before .enum-told .given .1) (c .before .before .before .if1 .left) (c .before .if2 .taken) in
     (ap (λ k. wrote k 1) (c .shut .ensures) ∙ done .0, done .1)
-
-shut-requires-2 : tie.Need-shut-requires-2
-shut-requires-2 c κs = search needs
 
 returns-4 : tie.Need-returns-4
 returns-4 c =
@@ -58,16 +31,16 @@ pub close-spec : {M : Type 1} → statement M
 close-spec =
     tie.close
     (tie.spec
-    judge-requires
-    enum-known-verdict
-    refuse-requires
+    (λ c κs. search needs)
+    (λ c. search needs)
+    (λ c κs. search needs)
     returns
-    enum-told
-    refuse-requires-2
+    (λ c. search needs)
+    (λ c κs. search needs)
     returns-2
-    slice-write-list
-    shut-requires
-    same-length
+    (λ c. search needs)
+    (λ c κs. search needs)
+    (λ c. search needs)
     returns-3
-    shut-requires-2
+    (λ c κs. search needs)
     returns-4)

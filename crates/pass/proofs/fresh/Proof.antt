@@ -8,18 +8,9 @@ use Rattle.terms.specs.declared.Refusal.the-variants.{SettingsOutOfRange}
 use Rattle.pass.proofs.fresh.Statement.{statement}
 use Rattle.pass.proofs.fresh.Tie as tie
 
-in-range-requires : tie.Need-in-range-requires
-in-range-requires c κs = search needs
-
-untouched-requires : tie.Need-untouched-requires
-untouched-requires c κs = search needs
-
 returns : tie.Need-returns
 unfolding freshOf
 returns c = rw (test-failed (c .before .before .in-range .ensures) (c .before .if1 .taken)) (ap (λ k. refused k SettingsOutOfRange) (c .untouched .ensures))
-
-untouched-requires-2 : tie.Need-untouched-requires-2
-untouched-requires-2 c κs = search needs
 
 returns-2 : tie.Need-returns-2
 unfolding freshOf
@@ -27,4 +18,4 @@ returns-2 c = rw (test-passed (c .before .before .in-range .ensures) (c .before 
 
 pub fresh-spec : {M : Type 1} → statement M
 fresh-spec =
-    tie.close (tie.spec in-range-requires untouched-requires returns untouched-requires-2 returns-2)
+    tie.close (tie.spec (λ c κs. search needs) (λ c κs. search needs) returns (λ c κs. search needs) returns-2)

@@ -53,15 +53,6 @@ first-is c =
     c .before .before .before .before .before .first-cut .ensures
     ∙ ap (λ w. firstCut (start .args .carry .settings) (start .args .carry .since) (w ++ now (start .args .block)) (length (now (start .args .block)))) (window-is (from c))
 
-leaving-requires : tie.Need-leaving-requires
-leaving-requires c κs = search needs
-
-pushed-requires : tie.Need-pushed-requires
-pushed-requires c κs = search needs
-
-joined-requires : tie.Need-joined-requires
-joined-requires c κs = search needs
-
 first-cut-requires : tie.Need-first-cut-requires
 first-cut-requires c κs =
     let at = c .before .before .before in
@@ -71,29 +62,11 @@ first-cut-requires c κs =
 slide-requires : tie.Need-slide-requires
 slide-requires c κs = head-is (c .before .before .before .before .before)
 
-slice-aggregate-of-window : tie.Need-slice-aggregate-of-window
-slice-aggregate-of-window c = search needs
-
-of-window-requires : tie.Need-of-window-requires
-of-window-requires c κs = search needs
-
 fill-requires : tie.Need-fill-requires
 fill-requires c κs =
     let at = c .before .before .before in
     let start = entry (from at) in
     (start .pre .0, (start .pre .1, (first-is at, (signature-is at, (from at .before .before .before .before .leaving .ensures, from at .before .before .before .pushed .ensures)))))
-
-enum-known-filled : tie.Need-enum-known-filled
-enum-known-filled c = search needs
-
-enum-told : tie.Need-enum-told
-enum-told c = search needs
-
-refuse-requires : tie.Need-refuse-requires
-refuse-requires c κs = search needs
-
-same-length : tie.Need-same-length
-same-length c = search needs
 
 returns : tie.Need-returns
 returns c =
@@ -103,9 +76,6 @@ returns c =
 
 advanced-requires : tie.Need-advanced-requires
 advanced-requires c κs = c .before .before .before .before .before .before .before .before .before .before .before .before .before .before .before .before .before .before .before .before .before .before .before .before .before .pre .1 .1
-
-same-length-2 : tie.Need-same-length-2
-same-length-2 c = search needs
 
 returns-2 : tie.Need-returns-2
 returns-2 c =
@@ -123,19 +93,19 @@ pub take-block-spec : {M : Type 1} → statement M
 take-block-spec =
     tie.close
     (tie.spec
-    leaving-requires
-    pushed-requires
-    joined-requires
+    (λ c κs. search needs)
+    (λ c κs. search needs)
+    (λ c κs. search needs)
     first-cut-requires
     slide-requires
-    slice-aggregate-of-window
-    of-window-requires
+    (λ c. search needs)
+    (λ c κs. search needs)
     fill-requires
-    enum-known-filled
-    enum-told
-    refuse-requires
-    same-length
+    (λ c. search needs)
+    (λ c. search needs)
+    (λ c κs. search needs)
+    (λ c. search needs)
     returns
     advanced-requires
-    same-length-2
+    (λ c. search needs)
     returns-2)

@@ -30,12 +30,6 @@ returns-2 : tie.Need-returns-2
 unfolding inOrder
 returns-2 c = rw (le-leb _ _ (c .before .before .if1 .left), le-ltb _ _ (c .if2 .taken))
 
-pushed-requires : tie.Need-pushed-requires
-pushed-requires c κs = search needs
-
-slice-aggregate-of-window : tie.Need-slice-aggregate-of-window
-slice-aggregate-of-window c = search needs
-
 of-window-requires : tie.Need-of-window-requires
 of-window-requires c κs = (omega (arith, whole (c .before .before .before .before .before .before .before)), c .before .before .pushed .ensures)
 
@@ -47,17 +41,11 @@ returns-3 : tie.Need-returns-3
 unfolding inOrder
 returns-3 c = rw (le-leb _ _ (c .before .before .before .before .before .before .before .before .before .if1 .left), lt-ltb _ _ (c .before .before .before .before .before .before .before .if2 .left), ne-eqb _ _ (λ e. c .if3 .taken (e ∙ sym (computed (c .before .before)))))
 
-places-before-requires : tie.Need-places-before-requires
-places-before-requires c κs = search needs
-
 array-share-prefix-window : tie.Need-array-share-prefix-window
 array-share-prefix-window c = omega (arith, whole (c .before .before .before .before .before .before .before .before .before .before .before), c .places-before .ensures)
 
 slice-aggregate-all-zero : tie.Need-slice-aggregate-all-zero
 slice-aggregate-all-zero c = sym (length-take-le _ _ (omega (arith, whole (c .before .before .before .before .before .before .before .before .before .before .before .before), c .before .places-before .ensures)))
-
-all-zero-requires : tie.Need-all-zero-requires
-all-zero-requires c κs = search needs
 
 -- the first three parts hold, and the call tells the fourth
 left : (c : tie.After-all-zero) → inOrder (entry c) ≡ (c .all-zero .result && leb (entry c .taken) longest)
@@ -87,14 +75,14 @@ in-order-spec =
     (tie.spec
     returns
     returns-2
-    pushed-requires
-    slice-aggregate-of-window
+    (λ c κs. search needs)
+    (λ c. search needs)
     of-window-requires
     returns-3
-    places-before-requires
+    (λ c κs. search needs)
     array-share-prefix-window
     slice-aggregate-all-zero
-    all-zero-requires
+    (λ c κs. search needs)
     returns-4
     returns-5
     returns-6)

@@ -6,14 +6,8 @@ use Rattle.laws.proofs.Cases.{test-passed, test-failed}
 use Rattle.carry.proofs.order.judge.Statement.{statement}
 use Rattle.carry.proofs.order.judge.Tie as tie
 
-in-range-requires : tie.Need-in-range-requires
-in-range-requires c κs = search needs
-
 returns : tie.Need-returns
 returns c = rw (test-failed (c .before .in-range .ensures) (c .if1 .taken))
-
-in-order-requires : tie.Need-in-order-requires
-in-order-requires c κs = search needs
 
 returns-2 : tie.Need-returns-2
 returns-2 c = rw (test-passed (c .before .before .before .in-range .ensures) (c .before .before .if1 .left), test-failed (c .before .in-order .ensures) (c .if2 .taken))
@@ -26,4 +20,4 @@ returns-4 c = rw (test-passed (c .before .before .before .before .in-range .ensu
 
 pub judge-spec : {M : Type 1} → statement M
 judge-spec =
-    tie.close (tie.spec in-range-requires returns in-order-requires returns-2 returns-3 returns-4)
+    tie.close (tie.spec (λ c κs. search needs) returns (λ c κs. search needs) returns-2 returns-3 returns-4)

@@ -15,25 +15,10 @@ use Rattle.taking.proofs.search.first_cut.Tie as tie
 abbrev start : tie.After-smaller2 → tie.Start
 start c = c .before .before .before .before .before
 
-still-to-come-requires : tie.Need-still-to-come-requires
-still-to-come-requires c κs = search needs
-
-sub-smaller : tie.Need-sub-smaller
-sub-smaller c = search needs
-
-smaller-requires : tie.Need-smaller-requires
-smaller-requires c κs = search needs
-
-smaller-requires-2 : tie.Need-smaller-requires-2
-smaller-requires-2 c κs = search needs
-
 add-first-mark : tie.Need-add-first-mark
 add-first-mark c =
     let k = c .before in
     omega (arith, k .before .before .before .still-to-come .ensures, ranges _ (start k .pre .0 .0) .ordered, ranges _ (start k .pre .0 .0) .bounded)
-
-add-first-mark-2 : tie.Need-add-first-mark-2
-add-first-mark-2 c = search needs
 
 first-mark-requires : tie.Need-first-mark-requires
 first-mark-requires c κs =
@@ -52,9 +37,6 @@ returns c =
     ends-early (start k .args .settings) (start k .args .since) (now (start k .args .head)) (now (start k .args .block)) _ _ _ _ (k .before .before .before .still-to-come .ensures) (k .before .smaller .ensures) (k .smaller2 .ensures)
     (start k .pre .1 .0 .0) (start k .pre .1 .0 .1) (c .before .first-mark .ensures) (c .if1 .taken)
 
-larger-requires : tie.Need-larger-requires
-larger-requires c κs = search needs
-
 first-mark-requires-2 : tie.Need-first-mark-requires-2
 first-mark-requires-2 c κs =
     let k = c .before .before .before .before in
@@ -71,15 +53,15 @@ pub first-cut-spec : {M : Type 1} → statement M
 first-cut-spec =
     tie.close
     (tie.spec
-    still-to-come-requires
-    sub-smaller
-    smaller-requires
-    smaller-requires-2
+    (λ c κs. search needs)
+    (λ c. search needs)
+    (λ c κs. search needs)
+    (λ c κs. search needs)
     add-first-mark
-    add-first-mark-2
+    (λ c. search needs)
     first-mark-requires
     sub-at
     returns
-    larger-requires
+    (λ c κs. search needs)
     first-mark-requires-2
     returns-2)

@@ -29,16 +29,10 @@ module _ (head w block : List ℕ) (whole : length w ≡ 48) where
 begins : (c : tie.Start) → length (take 48 (now (c .args .head))) ≡ 48
 begins c = length-take-le 48 (now (c .args .head)) (omega (arith, c .pre .0))
 
-window-at-requires : tie.Need-window-at-requires
-window-at-requires c κs = search needs
-
 returns : tie.Need-returns
 returns c =
     let start = c .before .before .before .before in
     c .window-at .ensures ∙ from-head (now (start .args .head)) (take 48 (now (start .args .head))) (now (start .args .block)) (begins start) (start .pre .1) (c .before .before .if1 .taken)
-
-window-at-requires-2 : tie.Need-window-at-requires-2
-window-at-requires-2 c κs = search needs
 
 returns-2 : tie.Need-returns-2
 returns-2 c =
@@ -46,4 +40,4 @@ returns-2 c =
     c .window-at2 .ensures ∙ from-block (now (start .args .head)) (take 48 (now (start .args .head))) (now (start .args .block)) (begins start) (c .before .if1 .left)
 
 pub slide-spec : {M : Type 1} → statement M
-slide-spec = tie.close (tie.spec window-at-requires returns window-at-requires-2 returns-2)
+slide-spec = tie.close (tie.spec (λ c κs. search needs) returns (λ c κs. search needs) returns-2)
