@@ -34,7 +34,8 @@ firstCut s since bytes n =
     let last = min (s .maximum - since) n in
     firstMark (λ i. mark s bytes (48 + i)) (suc last - first) first last
 
--- a piece that long ends where so many bytes of the block are left: at the block's end by the signature there
+-- a piece that long ends where the search stopped, so many bytes of the block being left: below the block's end it stops only where one ends,
+-- and at the end the signature there decides
 unfoldable pub isCut : Settings → ℕ → ℕ → ℕ → Bool
 isCut s left piece signature = ltb 0 left || (leb (s .minimum) piece && (matches s signature || eqb piece (s .maximum)))
 

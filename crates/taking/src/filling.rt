@@ -20,8 +20,8 @@ pub enum Filled {
     Reached(usize, u64),
 }
 
-// Whether a piece that long ends where so many bytes of the block are left: below the block's end it does, and at the end the
-// signature there decides.
+// Whether a piece that long ends where the search stopped, so many bytes of the block being left: below the block's end it stops only
+// where one ends, and at the end the signature there decides.
 fn is_cut(settings: Settings, left: usize, piece: u64, signature: u32) -> bool
     requires { ⌜ inRange settings ≡ true ⌝ }
     ensures { λ r. ⌜ r ≡ isCut settings left piece signature ⌝ }
