@@ -1,10 +1,9 @@
 -- A record put into its bay, and a bay put back into its board, as the code does it.
-use Prim.Native.Nat.{ℕ, zero, suc, _+_, _-_, _*_, _≤_, _<_}
-use mathlib.Core.Path.{_≡_, refl, sym, ap, ap₂, _∙_, subst}
-use mathlib.Core.Bool.{Bool, true, false}
+use Prim.Native.Nat.{ℕ, suc, _+_, _-_, _*_, _≤_, _<_}
+use mathlib.Core.Path.{_≡_, sym, ap, ap₂, _∙_}
+use mathlib.Core.Bool.{Bool, true}
 use mathlib.Core.List.{List, [], _∷_, _++_, append-nil}
 use native.Mathlib.Nat.{zero-add}
-use native.Mathlib.Numerals.{add-one}
 use native.Mathlib.Omega.{arith}
 use lib.Dec.{leb, ltb}
 use lib.ListN.{length, take, drop, set, length-take, length-drop, drop-of-length-le}
@@ -18,21 +17,22 @@ use Rattle.terms.specs.declared.Refusal.{Refusal}
 use Rattle.terms.specs.declared.Refusal.the-variants.{RecordTooLong}
 use Rattle.terms.specs.declared.Answer.{Answer}
 use Rattle.terms.specs.declared.Answer.the-variants.{Wrote, Refused}
-use Rattle.board.specs.declared.recording.Recorded.{Recorded}
-use Rattle.board.specs.Records.{Record, entries}
+use Rattle.recording.specs.declared.Recorded.{Recorded}
+use Rattle.bays.specs.Bays.{Record, entries}
 use Rattle.terms.specs.declared.Settings.{Settings}
 use Rattle.terms.specs.Settings.{inRange}
 use Rattle.terms.specs.Answers.{longest}
-use Rattle.board.specs.declared.Verdict.{Verdict}
-use Rattle.board.specs.declared.Verdict.the-variants.{Granted, Denied}
-use Rattle.board.specs.Segments.{segments, shapeFits, boardFits, bayFits, segmentFits, There}
-use Rattle.board.specs.Merging.{judged, ifGranted}
-use Rattle.board.specs.Recording.{recordFits, recordAnswer, recorded, withBay, segmentOf, bayAnswer, bayAfter, segmentAnswer, segmentBoard}
-use Rattle.board.proofs.Ranges.{sizes, bay-inside}
-use Rattle.board.proofs.BayTests.{bay-lent}
-use Rattle.board.proofs.Verdicts.{granted}
-use Rattle.board.specs.Stretches.{Records}
-use Rattle.board.proofs.Putting.{sets-written}
+use Rattle.bays.specs.declared.Verdict.{Verdict}
+use Rattle.bays.specs.declared.Verdict.the-variants.{Granted, Denied}
+use Rattle.bays.specs.Segments.{segments, shapeFits, boardFits, bayFits, segmentFits, There}
+use Rattle.bays.specs.Judging.{judged}
+use Rattle.board.specs.Recording.{recordFits, recordAnswer, recorded, withBay, bayAnswer, bayAfter, segmentAnswer, segmentBoard}
+use Rattle.recording.specs.Records.{segmentOf}
+use Rattle.bays.proofs.Ranges.{sizes, bay-inside}
+use Rattle.bays.proofs.BayTests.{bay-lent}
+use Rattle.bays.proofs.Verdicts.{granted}
+use Rattle.recording.specs.Stretches.{Records}
+use Rattle.laws.proofs.Sets.{sets-over}
 
 -- entries 0 and 1 stored over a bay whose other entries came back
 stored : (bay part : List ℕ) → 2 ≤ length bay → (x y : ℕ)
@@ -50,7 +50,8 @@ lent-rest (a ∷ b ∷ rest) h = take-all (suc (suc (length rest)) - 2) rest (om
 
 module _ (r : Record) (rec : Recorded) (bay part : List ℕ) (wide : 2 ≤ length bay) (w : Records r 0 rec (take (length bay - 2) (drop 2 bay)) part) where
   part-is : part ≡ writtenList (r .offsets) (drop 2 bay)
-  part-is = w .kept ∙ ap (λ (l : List ℕ). sets l 0 (r .offsets)) (lent-rest bay wide) ∙ sets-written (drop 2 bay) (r .offsets)
+  unfolding writtenList
+  part-is = w .kept ∙ ap (λ (l : List ℕ). sets l 0 (r .offsets)) (lent-rest bay wide) ∙ sets-over (drop 2 bay) (r .offsets)
 
   count-is : rec .count ≡ length (r .offsets)
   count-is = w .counted ∙ zero-add (length (r .offsets))

@@ -1,24 +1,24 @@
 -- Where a merge stops, and what it then answers and leaves.
 use Prim.Native.Nat.{ℕ, _≤_, _<_}
 use mathlib.Core.Path.{_≡_, sym, ap, _∙_}
-use mathlib.Core.Bool.{Bool, true, false}
+use mathlib.Core.Bool.{Bool, true}
 use mathlib.Core.List.{List}
-use native.Mathlib.Omega.{arith}
 use lib.ListN.{length}
 use borrow.Author.Tests.{le-leb, lt-leb, leb-true}
 use Rattle.cutting.specs.WholeLog.{writtenAnswer, writtenList}
 use Rattle.terms.specs.declared.Settings.{Settings}
 use Rattle.terms.specs.declared.Refusal.{Refusal}
 use Rattle.terms.specs.declared.Refusal.the-variants.{RoomTooShort, ListFull}
-use Rattle.terms.specs.declared.Answer.{Answer}
 use Rattle.terms.specs.declared.Answer.the-variants.{Wrote, Refused}
 use Rattle.terms.specs.Settings.{inRange}
 use Rattle.terms.specs.Answers.{longest, roomFor}
-use Rattle.board.specs.declared.Verdict.{Verdict}
-use Rattle.board.specs.declared.Verdict.the-variants.{Granted, Denied}
-use Rattle.board.specs.Segments.{segments, boardFits}
-use Rattle.board.specs.Merging.{judged, baysJudged, mergeJudged, mergeAnswer, mergeList, boardWalk, ifGranted}
-use Rattle.board.proofs.Verdicts.{granted}
+use Rattle.bays.specs.declared.Verdict.{Verdict}
+use Rattle.bays.specs.declared.Verdict.the-variants.{Granted, Denied}
+use Rattle.bays.specs.Segments.{segments, boardFits}
+use Rattle.bays.specs.Judging.{judged, baysJudged}
+use Rattle.board.specs.Merging.{mergeJudged, mergeAnswer, mergeList}
+use Rattle.walk.specs.Walk.{boardWalk}
+use Rattle.bays.proofs.Verdicts.{granted}
 
 module _ (s : Settings) (n size width : ℕ) (board list : List ℕ) where
   module _ {v : Verdict} {fits : Bool} (told : v ≡ judged s n fits) (fit : fits ≡ boardFits size width n (length board)) where

@@ -13,12 +13,13 @@ by-test false f g = g refl
 pub by-lt {ℓ} : {C : Type ℓ} (a b : ℕ) → (a < b → C) → (b ≤ a → C) → C
 by-lt a b f g = by-test (ltb a b) (λ e. f (ltb-true a b e)) (λ e. g (ltb-false a b e))
 
+-- no test both passes and fails
+pub clash : true ≡ false → ⊥
+clash e = let z : _≡_ {A = ℕ} 0 1 = cc in omega arith
+
 -- both halves of a test that passed
 pub both-true : {a b : Bool} → a && b ≡ true → (a ≡ true) × (b ≡ true)
-both-true {a} {b} e = by-test a (λ h. (h, rw h at e)) (λ h. absurd (never (rw h at e)))
-  where
-    never : false ≡ true → ⊥
-    never p = let z : _≡_ {A = ℕ} 0 1 = cc in omega arith
+both-true {a} {b} e = by-test a (λ h. (h, rw h at e)) (λ h. absurd (clash (sym (rw h at e))))
 
 -- a test t asked by a call that answered r, under the code's `if !r`
 pub test-passed : {r t : Bool} → r ≡ t → not r ≡ false → t ≡ true

@@ -3,7 +3,7 @@ use Prim.Native.Nat.{ℕ, _+_, _-_, _%_, _^_, _≤_, _<_}
 use mathlib.Core.Path.{_≡_, refl, sym, ap, _∙_}
 use mathlib.Core.Bool.{Bool, true, false}
 use mathlib.Core.Logic.{_↔_}
-use mathlib.Core.List.{List, List·Permᴰ}
+use mathlib.Core.List.{List, List·Permᴰ, List·Memᴰ}
 use native.Mathlib.Omega.{arith}
 use lib.Bits.{bitXor}
 use lib.Dec.{leb, lit<}
@@ -25,14 +25,16 @@ use Rattle.signature.proofs.Remainders.{rem-exactly}
 use Rattle.cutting.specs.Marks.{mark, matches, cutList}
 use Rattle.carry.specs.SinglePass.{Lent, joined, Roomy, writtenBy}
 use Rattle.carry.proofs.SinglePass as carry
-use Rattle.board.specs.Segments.{segments}
-use Rattle.board.specs.Bays.{bayOf, Holds}
-use Rattle.board.specs.declared.Verdict.the-variants.{Granted}
-use Rattle.board.specs.Merging.{boardWalk, baysJudged}
-use Rattle.board.specs.Recording.{segmentOf, recordAll}
-use Rattle.board.proofs.Merged as merging
-use Rattle.board.proofs.Accepted as accepted
-use Rattle.board.proofs.Orders as orders
+use Rattle.bays.specs.Segments.{segments, segmentFits}
+use Rattle.bays.specs.Bays.{bayOf, Holds}
+use Rattle.bays.specs.declared.Verdict.the-variants.{Granted}
+use Rattle.walk.specs.Walk.{boardWalk}
+use Rattle.bays.specs.Judging.{judged, baysJudged}
+use Rattle.recording.specs.Records.{segmentOf}
+use Rattle.board.specs.Recording.{recordFits, recordAll}
+use Rattle.merged.proofs.Merged as merging
+use Rattle.merged.proofs.Accepted as accepted
+use Rattle.merged.proofs.Orders as orders
 use Rattle.terms.proofs.Ranges.{ranges}
 use Rattle.cutting.specs.WholeLog.{cutLogAnswer, cutLogList, writtenAnswer, writtenList}
 
@@ -125,3 +127,14 @@ true-bays-accepted s log size width board ok sized held =
 pub any-order : (s : Settings) (log : List ℕ) (size width : ℕ) {is js : List ℕ} → List·Permᴰ is js → (board : List ℕ)
     → recordAll (mark s log) s (length log) size width is board ≡ recordAll (mark s log) s (length log) size width js board
 any-order s log size width = orders.any-order (mark s log) s (length log) size width
+
+-- and where each segment is among calls that are not refused, the walk over what they leave is the log's list
+pub recorded-merged : (s : Settings) (log : List ℕ) (size width : ℕ) → inRange s ≡ true → 0 < size → (calls board : List ℕ)
+    → ((i : ℕ) → i < segments size (length log)
+    → (judged s (length log) (segmentFits size width (length log) i (length board)) ≡ Granted)
+    × (recordFits (segmentOf (mark s log) s (length log) size i) width ≡ true)
+    × List·Memᴰ i calls)
+    → boardWalk s (length log) size width (recordAll (mark s log) s (length log) size width calls board) ≡ cutList s log
+recorded-merged s log size width ok sized calls board called =
+    merged s log size width (recordAll (mark s log) s (length log) size width calls board) ok sized
+    (λ i h. let known = called i h in orders.then-held (mark s log) s (length log) size width i (known .1) calls board (known .0) (known .2))

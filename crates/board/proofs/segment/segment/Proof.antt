@@ -2,7 +2,7 @@
 use borrow.Author.Needs.{needs}
 use mathlib.Core.Bool.{true}
 use native.Mathlib.Omega.{arith}
-use Rattle.board.proofs.Ranges.{lent-length}
+use Rattle.bays.proofs.Ranges.{lent-length}
 use Rattle.board.proofs.Fills.{board-denied, board-rows, board-recorded}
 use Rattle.board.proofs.segment.segment.Statement.{statement}
 use Rattle.board.proofs.segment.segment.Tie as tie

@@ -1,0 +1,156 @@
+-- Slow mode in a stretch, mark by mark.
+use Prim.Native.Nat.{ℕ, suc, _+_, _-_, _≤_, _<_}
+use mathlib.Core.Path.{_≡_, refl, sym, ap, _∙_}
+use mathlib.Core.Bool.{true, false, _&&_}
+use mathlib.Core.List.{List, [], _∷_}
+use native.Mathlib.Omega.{arith}
+use lib.Dec.{leb}
+use lib.ListN.{length, set}
+use lib.Seq.{sets, length-sets}
+use Rattle.laws.proofs.Cases.{by-lt}
+use Rattle.rule.specs.Rule.{Unmarked, cutsUpTo}
+use Rattle.signature.specs.Signatures.{signatureOf, window}
+use Rattle.terms.specs.declared.Settings.{Settings}
+use Rattle.cutting.specs.Marks.{mark}
+use Rattle.puts.specs.declared.Made.{Made}
+use Rattle.recording.specs.declared.search.Sought.{Sought}
+use Rattle.recording.specs.declared.Recorded.{Recorded}
+use Rattle.puts.specs.Puts.{Puts}
+use Rattle.bays.specs.Bays.{Record}
+use Rattle.recording.specs.Records.{recordAfter, slowRecord, marksAmong, marksIn, isMarker, prepend}
+use Rattle.recording.specs.Stretches.{markFrom, afterIn, slowIn, Seek, Records}
+use Rattle.recording.proofs.Marking.{marks-next, marks-none}
+use Rattle.recording.proofs.After.{at-marker, no-marker}
+use Rattle.puts.proofs.Putting.{Underway, begin, one-more, rest-is, ended, all-made}
+
+-- from a mark of a stretch to the next, which a search found or not
+module _ (s : Settings) (stretch : List ℕ) (base : ℕ) where
+  -- nothing follows the stretch's end
+  pub after-end : (at : ℕ) → length stretch ≤ at → afterIn s stretch base at ≡ record { marker = 0; offsets = [] }
+  unfolding afterIn recordAfter marksIn marksAmong
+  after-end at h = let none : base + length stretch - (base + at) ≡ 0 = omega arith in rw none
+
+  module _ (at : ℕ) (next : Sought) (inside : at < length stretch) (k : Seek s stretch (at + 1) next) where
+    clear-moved : Unmarked (markFrom s stretch base) (suc (base + at)) (base + next .at)
+    unfolding markFrom
+    clear-moved q lo hi = k .clear (q - base) (omega arith) (omega arith)
+
+    told-moved : markFrom s stretch base (base + next .at) ≡ next .found
+    unfolding markFrom
+    told-moved = let same : base + next .at - base ≡ next .at = omega arith in ap (mark s stretch) same ∙ k .told
+
+    pub after-none : next .found ≡ false → afterIn s stretch base at ≡ record { marker = 0; offsets = [] }
+    unfolding afterIn recordAfter
+    after-none t =
+        let ends : next .at ≡ length stretch = k .ended t in
+        rw (marks-none (markFrom s stretch base) (base + length stretch) (base + at) (omega arith)
+        (λ q lo hi. by-lt q (base + next .at) (clear-moved q lo) (λ h. ap (markFrom s stretch base) (omega arith) ∙ told-moved ∙ t)))
+
+    module _ (t : next .found ≡ true) where
+      next-marks : marksIn (markFrom s stretch base) (base + at) (base + length stretch)
+          ≡ (base + next .at) ∷ marksIn (markFrom s stretch base) (base + next .at) (base + length stretch)
+      next-marks =
+          marks-next (markFrom s stretch base) (base + length stretch) (base + at) (base + next .at) (omega (arith, k .begun)) (omega (arith, k .inside))
+          (told-moved ∙ t) clear-moved
+
+      step-is : isMarker (s .minimum) (s .maximum) (base + at) (base + next .at)
+          ≡ leb (s .minimum) (next .at - at) && leb (next .at - at) (s .maximum - s .minimum)
+      unfolding isMarker
+      step-is = let same : base + next .at - (base + at) ≡ next .at - at = omega arith in rw same
+
+      pub after-marker : leb (s .minimum) (next .at - at) && leb (next .at - at) (s .maximum - s .minimum) ≡ true
+          → afterIn s stretch base at
+          ≡ record { marker = base + next .at; offsets = (base + next .at) ∷ cutsUpTo (markFrom s stretch base) (s .minimum) (s .maximum) (base + length stretch) (base + next .at) }
+      unfolding afterIn
+      after-marker m =
+          ap (recordAfter (markFrom s stretch base) (s .minimum) (s .maximum) (base + length stretch) (base + at)) next-marks
+          ∙ at-marker (markFrom s stretch base) (s .minimum) (s .maximum) (base + length stretch) (base + at) (base + next .at) _ (step-is ∙ m)
+
+      pub after-mark : leb (s .minimum) (next .at - at) && leb (next .at - at) (s .maximum - s .minimum) ≡ false
+          → afterIn s stretch base at ≡ prepend (base + next .at) (afterIn s stretch base (next .at))
+      unfolding afterIn
+      after-mark m =
+          ap (recordAfter (markFrom s stretch base) (s .minimum) (s .maximum) (base + length stretch) (base + at)) next-marks
+          ∙ no-marker (markFrom s stretch base) (s .minimum) (s .maximum) (base + length stretch) (base + at) (base + next .at) _ (step-is ∙ m)
+
+-- the marks up to `spot` are recorded, after the first
+pub record Slowly (s : Settings) (stretch : List ℕ) (base : ℕ) (first : Sought) (list₀ list : List ℕ) (spot : Sought) (count : ℕ) : Type 0 where
+  pub low : 48 ≤ spot .at
+  pub inside : spot .at ≤ length stretch
+  pub here : spot .signature ≡ signatureOf (window stretch (spot .at - 48))
+  pub marker : afterIn s stretch base (first .at) .marker ≡ afterIn s stretch base (spot .at) .marker
+  pub way : Underway (afterIn s stretch base (first .at) .offsets) (afterIn s stretch base (spot .at) .offsets)
+      (record { count = 1; cut = base + first .at }) list₀ count (base + spot .at) list
+
+pub slow-start : (s : Settings) (stretch : List ℕ) (base : ℕ) (first : Sought) (list : List ℕ) → 48 ≤ first .at → first .at ≤ length stretch
+    → first .signature ≡ signatureOf (window stretch (first .at - 48)) → Slowly s stretch base first list list first 1
+slow-start s stretch base first list low inside here =
+    record { low = low; inside = inside; here = here; marker = refl; way = begin _ (record { count = 1; cut = base + first .at }) list (omega arith) }
+
+module _ {s : Settings} {stretch : List ℕ} {base : ℕ} {first : Sought} {list₀ list : List ℕ} {spot : Sought} {count : ℕ}
+    (w : Slowly s stretch base first list₀ list spot count) where
+  -- no more marks
+  stopped : afterIn s stretch base (spot .at) ≡ record { marker = 0; offsets = [] }
+      → Records (afterIn s stretch base (first .at)) 1 (record { count = count; marker = 0 }) list₀ list
+  stopped e =
+      let p = ended (rest-is [] (ap (λ (r : Record). r .offsets) e) (w .way)) in
+      record { counted = p .counted; marked = sym (w .marker ∙ ap (λ (r : Record). r .marker) e); kept = p .kept }
+
+  pub slow-end : length stretch ≤ spot .at → Records (afterIn s stretch base (first .at)) 1 (record { count = count; marker = 0 }) list₀ list
+  slow-end h = stopped (after-end s stretch base (spot .at) h)
+
+  module _ (next : Sought) (room : spot .at < length stretch) (k : Seek s stretch (spot .at + 1) next) where
+    pub slow-none : next .found ≡ false → Records (afterIn s stretch base (first .at)) 1 (record { count = count; marker = 0 }) list₀ list
+    slow-none t = stopped (after-none s stretch base (spot .at) next room k t)
+
+    pub slow-on : next .found ≡ true → leb (s .minimum) (next .at - spot .at) && leb (next .at - spot .at) (s .maximum - s .minimum) ≡ false
+        → {list′ : List ℕ} → list′ ≡ set list count (base + next .at) → Slowly s stretch base first list₀ list′ next (count + 1)
+    unfolding prepend
+    slow-on t m e =
+        let after = after-mark s stretch base (spot .at) next room k t m in
+        record {
+          low = omega (arith, w .low, k .begun);
+          inside = k .inside;
+          here = k .here;
+          marker = w .marker ∙ ap (λ (r : Record). r .marker) after;
+          way = one-more (base + next .at) (rest-is _ (ap (λ (r : Record). r .offsets) after) (w .way)) (omega (arith, k .begun)) e;
+        }
+
+    pub slow-marker : next .found ≡ true → leb (s .minimum) (next .at - spot .at) && leb (next .at - spot .at) (s .maximum - s .minimum) ≡ true
+        → {list′ list″ : List ℕ} → list′ ≡ set list count (base + next .at) → {all : Made}
+        → Puts (cutsUpTo (markFrom s stretch base) (s .minimum) (s .maximum) (base + length stretch) (base + next .at)) (record { count = count + 1; cut = base + next .at }) all list′ list″
+        → Records (afterIn s stretch base (first .at)) 1 (record { count = all .count; marker = base + next .at }) list₀ list″
+    slow-marker t m e {all} p =
+        let after = after-marker s stretch base (spot .at) next room k t m in
+        let u = one-more (base + next .at) (rest-is _ (ap (λ (r : Record). r .offsets) after) (w .way)) (omega (arith, k .begun)) e in
+        let done = all-made u refl p in
+        record { counted = done .counted; marked = sym (w .marker ∙ ap (λ (r : Record). r .marker) after); kept = done .kept }
+
+pub records-long : {r : Record} {before : ℕ} {after : Recorded} {list₀ list : List ℕ} → Records r before after list₀ list → length list ≡ length list₀
+records-long {r} {before} {list₀ = list₀} w = ap length (w .kept) ∙ length-sets list₀ before (r .offsets)
+
+-- the first mark of a stretch past its lead-in
+module _ (s : Settings) (stretch : List ℕ) (base : ℕ) (long : 48 ≤ length stretch) (first : Sought) (k : Seek s stretch 48 first) (list : List ℕ) where
+  first-clear : Unmarked (markFrom s stretch base) (suc (base + 47)) (base + first .at)
+  unfolding markFrom
+  first-clear q lo hi = k .clear (q - base) (omega arith) (omega arith)
+
+  first-told : markFrom s stretch base (base + first .at) ≡ first .found
+  unfolding markFrom
+  first-told = let same : base + first .at - base ≡ first .at = omega arith in ap (mark s stretch) same ∙ k .told
+
+  pub first-none : first .found ≡ false → Records (slowIn s stretch base) 0 (record { count = 0; marker = 0 }) list list
+  unfolding slowIn slowRecord
+  first-none t =
+      let ends : first .at ≡ length stretch = k .ended t in
+      rw (marks-none (markFrom s stretch base) (base + length stretch) (base + 47) (omega arith)
+      (λ q lo hi. by-lt q (base + first .at) (first-clear q lo) (λ h. ap (markFrom s stretch base) (omega arith) ∙ first-told ∙ t)))
+      (record { counted = refl; marked = refl; kept = refl })
+
+  pub first-found : first .found ≡ true → {list′ list″ : List ℕ} → list′ ≡ set list 0 (base + first .at) → {r : Recorded}
+      → Records (afterIn s stretch base (first .at)) 1 r list′ list″ → Records (slowIn s stretch base) 0 r list list″
+  unfolding slowIn slowRecord afterIn prepend
+  first-found t e {r} w =
+      rw (marks-next (markFrom s stretch base) (base + length stretch) (base + 47) (base + first .at) (omega (arith, k .begun)) (omega (arith, k .inside))
+      (first-told ∙ t) first-clear)
+      (record { counted = w .counted ∙ omega arith; marked = w .marked; kept = w .kept ∙ ap (λ (l : List ℕ). sets l 1 (afterIn s stretch base (first .at) .offsets)) e })
