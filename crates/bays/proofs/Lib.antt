@@ -1,3 +1,4 @@
 pub mod Ranges
-pub mod BayTests
+pub mod Offsets
+pub mod Sound
 pub mod Verdicts

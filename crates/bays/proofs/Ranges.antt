@@ -9,6 +9,8 @@ use lib.ListN.{length, take, drop, length-take, length-drop}
 use mathlib.Core.Bool.{true}
 use borrow.Author.Tests.{leb-true}
 use Rattle.laws.proofs.Cases.{by-lt, both-true}
+use Rattle.laws.proofs.Lent.{part-lent}
+use Rattle.bays.specs.Bays.{bayOf}
 use Rattle.bays.specs.Segments.{segments, segmentStart, segmentEnd, sizeInRange, shapeFits, boardFits}
 
 -- what a shape that fits says
@@ -106,7 +108,12 @@ module _ (size n : ℕ) (positive : 0 < size) where
       let part : n % size < size = mod-lt n positive in
       sym (div-eq-of-lt-le size (omega (arith, one-times-more (n / size))) (omega (arith, one-times-more (n / size), one-times-more (n / size + 1))))
 
--- a bay as the code lends it is as wide as a bay
-pub lent-length : (width : ℕ) (board : List ℕ) (i : ℕ) → i * width + width ≤ length board → 2 ≤ width
-    → 2 ≤ length (take (i * width + width - i * width) (drop (i * width) board))
-lent-length width board i h wide = rw (length-take, length-drop) (omega arith)
+-- bay i as the code lends it
+pub bay-lent : (width : ℕ) (board : List ℕ) (i : ℕ) → take (i * width + width - i * width) (drop (i * width) board) ≡ bayOf width board i
+unfolding bayOf
+bay-lent width board i = part-lent board (i * width) width
+
+-- which has all its numbers
+pub length-bay : (width : ℕ) (board : List ℕ) (i : ℕ) → i * width + width ≤ length board → length (bayOf width board i) ≡ width
+unfolding bayOf
+length-bay width board i h = rw (length-take, length-drop) (omega arith)

@@ -1,6 +1,6 @@
 -- What a verdict of granted says of the rows before it.
 use Prim.Native.Nat.{ℕ, zero, suc, _+_, _-_, _≤_, _<_}
-use mathlib.Core.Path.{_≡_, refl}
+use mathlib.Core.Path.{_≡_, refl, sym, ap, _∙_}
 use mathlib.Core.Bool.{Bool, true}
 use mathlib.Core.List.{List}
 use native.Mathlib.Omega.{arith}
@@ -17,7 +17,7 @@ use Rattle.bays.specs.declared.Verdict.{Verdict}
 use Rattle.bays.specs.declared.Verdict.the-variants.{Granted, Denied}
 use Rattle.bays.specs.Segments.{segmentStart, segmentEnd}
 use Rattle.bays.specs.Bays.{bayOf, isDone, offsetCount, recordIn, risesWithin, markerFits, isSound}
-use Rattle.bays.specs.Judging.{judged, bayJudged, baysJudged}
+use Rattle.bays.specs.Judging.{judged, bayJudged, baysJudged, ifGranted}
 
 pub by-verdict {ℓ} : {C : Type ℓ} (v : Verdict) → (v ≡ Granted → C) → ((why : Refusal) → v ≡ Denied why → C) → C
 by-verdict Granted f g = f refl
@@ -35,6 +35,23 @@ granted s n fits v =
     (λ b. by-test fits (λ c. (a, b, c)) (λ c. absurd (not-both {why = NoSuchSegment} (rw (a, b, c)) v)))
     (λ b. absurd (not-both {why = LogTooLong} (rw (a, b)) v)))
     (λ a. absurd (not-both {why = SettingsOutOfRange} (rw a) v))
+
+-- a call that judges these rows first, the last by a test that it asked: what it answers and leaves where it is refused, and where it goes on
+module _ (s : Settings) (n : ℕ) {v : Verdict} {asked fits : Bool} (told : v ≡ judged s n asked) (fit : asked ≡ fits) where
+  pub verdict-is : judged s n fits ≡ v
+  verdict-is = sym (told ∙ ap (judged s n) fit)
+
+  pub refused-at : {why : Refusal} → v ≡ Denied why → {A B : Type 0} (refused : Refusal → A) (answer : A) (before after : B)
+      → (refused why ≡ ifGranted (judged s n fits) refused answer) × (before ≡ ifGranted (judged s n fits) (λ _. before) after)
+  refused-at e refused answer before after = (rw (verdict-is ∙ e), rw (verdict-is ∙ e))
+
+  module _ (fine : v ≡ Granted) where
+    pub goes-on : {A B : Type 0} (refused : Refusal → A) {r answer : A} (before : B) {left after : B} → r ≡ answer → left ≡ after
+        → (r ≡ ifGranted (judged s n fits) refused answer) × (left ≡ ifGranted (judged s n fits) (λ _. before) after)
+    goes-on refused before p q = (rw (verdict-is ∙ fine) p, rw (verdict-is ∙ fine) q)
+
+    pub passed : (inRange s ≡ true) × (n ≤ longest) × (fits ≡ true)
+    passed = let g = granted s n fits (verdict-is ∙ fine) in (g .0, leb-true _ _ (g .1), g .2)
 
 -- rows 8 and 9 of a bay
 pub record Judged (s : Settings) (size n i : ℕ) (bay : List ℕ) : Type 0 where

@@ -1,5 +1,5 @@
 -- Records and bays: a bay read back, when it is done, and when it is malformed. Document 01, "Segments and the board".
-use Prim.Native.Nat.{ℕ, zero, suc, _+_, _-_, _*_, _≤_}
+use Prim.Native.Nat.{ℕ, zero, suc, _+_, _-_, _*_}
 use mathlib.Core.Bool.{Bool, true, false, _&&_, _||_}
 use mathlib.Core.Path.{_≡_}
 use mathlib.Core.List.{List, [], _∷_, _++_}
@@ -48,23 +48,21 @@ unfoldable pub followers : ℕ → List ℕ → List ℕ
 followers p [] = []
 followers p (q ∷ offsets) = elim (eqb q p) [ true ↦ offsets | false ↦ followers p offsets ]
 
--- k is the place where p is first listed, or the length where it is not
-pub record Place (p : ℕ) (offsets : List ℕ) (k : ℕ) : Type 0 where
-  pub among : k ≤ length offsets
-  pub listed : isListed p offsets ≡ ltb k (length offsets)
-  pub follow : followers p offsets ≡ drop (suc k) offsets
-
 -- every step from c on is between minimum and maximum
 unfoldable pub stepsWithin : ℕ → ℕ → ℕ → List ℕ → Bool
 stepsWithin minimum maximum c [] = true
 stepsWithin minimum maximum c (p ∷ offsets) = stepFits minimum maximum false c p && stepsWithin minimum maximum p offsets
 
--- the marker is 0 or listed, and 0 in segment 0; steps from the marker on, in segment 0 from 0 on, are between minimum and maximum
+-- the marker is 0 or listed; steps from the marker on are between minimum and maximum
+unfoldable pub fromMarker : ℕ → ℕ → ℕ → List ℕ → Bool
+fromMarker minimum maximum marker offsets =
+    (eqb marker 0 || isListed marker offsets)
+    && stepsWithin minimum maximum marker (followers marker offsets)
+
+-- in segment 0 the marker is 0, and steps from 0 on are between minimum and maximum
 unfoldable pub markerFits : ℕ → ℕ → ℕ → Record → Bool
 markerFits minimum maximum zero r = eqb (r .marker) 0 && stepsWithin minimum maximum 0 (r .offsets)
-markerFits minimum maximum (suc i) r =
-    (eqb (r .marker) 0 || isListed (r .marker) (r .offsets))
-    && stepsWithin minimum maximum (r .marker) (followers (r .marker) (r .offsets))
+markerFits minimum maximum (suc i) r = fromMarker minimum maximum (r .marker) (r .offsets)
 
 -- bay i, if done, is not malformed: its number is at most R - 2, its offsets strictly rise within the segment, and its marker and steps fit
 unfoldable pub isSound : ℕ → ℕ → ℕ → ℕ → ℕ → List ℕ → Bool

@@ -4,7 +4,7 @@ ghost use mathlib.Core.Bool.{true, false};
 ghost use Prim.Native.Nat.{_+_, _*_, _≤_, _<_, _^_};
 ghost use lib.ListN.{length};
 ghost use Rattle.bays.specs.Segments.{segments, boardFits, There};
-ghost use Rattle.bays.specs.Bays.{risesWithin, stepsWithin, markerFits, isSound, isDone, Place};
+ghost use Rattle.bays.specs.Bays.{risesWithin, stepsWithin, fromMarker, markerFits, isSound, isDone};
 ghost use Rattle.bays.specs.Judging.{bayJudged, baysJudged};
 use super::Verdict;
 use terms::Refusal;
@@ -47,37 +47,30 @@ fn steps_within(offsets: &[u64], cut: u64, minimum: u64, maximum: u64) -> bool
     true
 }
 
-// Where an offset is first listed, or past the end.
-fn place_of(offsets: &[u64], p: u64) -> usize
-    ensures { λ r. ⌜ Place p (now (offsets .entry)) r ⌝ }
+// In any segment but the first: whether the marker is 0 or listed, and every step from it on fits.
+fn marker_listed(offsets: &[u64], marker: u64, minimum: u64, maximum: u64) -> bool
+    ensures { λ r. ⌜ r ≡ fromMarker minimum maximum marker (now (offsets .entry)) ⌝ }
 {
     let mut k = 0;
     while k < offsets.len() {
-        if offsets[k] == p {
-            return k;
+        if offsets[k] == marker {
+            return steps_within(&offsets[k + 1..], marker, minimum, maximum);
         }
         k += 1;
     }
-    k
+    marker == 0
 }
 
 fn marker_fits(offsets: &[u64], marker: u64, i: u64, minimum: u64, maximum: u64) -> bool
     ensures { λ r. ⌜ r ≡ markerFits minimum maximum i (record { marker = marker; offsets = now (offsets .entry) }) ⌝ }
 {
-    if i == 0 {
-        if marker != 0 {
-            return false;
-        }
-        return steps_within(offsets, 0, minimum, maximum);
+    if i > 0 {
+        return marker_listed(offsets, marker, minimum, maximum);
     }
-    let place = place_of(offsets, marker);
-    if place == offsets.len() {
-        if marker != 0 {
-            return false;
-        }
-        return true;
+    if marker != 0 {
+        return false;
     }
-    steps_within(&offsets[place + 1..], marker, minimum, maximum)
+    steps_within(offsets, 0, minimum, maximum)
 }
 
 // Whether bay i, which is done, is not malformed. The caller sees that the segment is there.
@@ -86,12 +79,11 @@ fn is_sound(settings: Settings, size: u64, n: u64, i: u64, bay: &[u64]) -> bool
     requires { ⌜ (2 ≤ length (now bay)) × (isDone (now bay) ≡ true) ⌝ }
     ensures { λ r. ⌜ r ≡ isSound (settings .minimum) (settings .maximum) size n i (now (bay .entry)) ⌝ }
 {
-    let count = bay[0] - 1;
-    if count > bay.len() as u64 - 2 {
+    if bay[0] - 1 > bay.len() as u64 - 2 {
         return false;
     }
     let start = i * size;
-    let offsets = &bay[2..count as usize + 2];
+    let offsets = super::reading::offsets_in(bay);
     if !rises_within(offsets, start, super::shapes::end_of(start, size, n)) {
         return false;
     }
@@ -121,8 +113,7 @@ pub fn judge_bays(settings: Settings, size: u64, width: u64, n: u64, board: &[u6
     let count = super::shapes::segments_of(size, n);
     let mut i = 0;
     while i < count {
-        let start = (i * width) as usize;
-        let bay = &board[start..start + width as usize];
+        let bay = super::reading::bay_at(board, width, i);
         match judge_bay(settings, size, n, i, bay) {
             Verdict::Denied(why) => return Verdict::Denied(why),
             Verdict::Granted => {}

@@ -2,6 +2,7 @@
 use terms::Refusal;
 
 pub mod judging;
+pub mod reading;
 pub mod shapes;
 
 // What judging comes to, before anything is written.

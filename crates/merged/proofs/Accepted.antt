@@ -1,7 +1,7 @@
 -- A true board is never refused by 8 or 9: a bay that holds its segment's record is done and not malformed.
 use Prim.Native.Nat.{ℕ, zero, suc, _+_, _-_, _≤_, _<_}
 use mathlib.Core.Path.{_≡_, refl, ap, _∙_}
-use mathlib.Core.Bool.{Bool, true, false, _&&_, _||_}
+use mathlib.Core.Bool.{Bool, true, false}
 use mathlib.Core.List.{List, _∷_, _++_}
 use native.Mathlib.Nat.{zero-mul}
 use native.Mathlib.Omega.{arith}
@@ -9,14 +9,14 @@ use lib.Dec.{eqb}
 use lib.ListN.{length, take, length-append}
 use lib.Seq.{take-append-seam}
 use borrow.Author.Tests.{le-leb, lt-ltb, eq-eqb}
-use Rattle.laws.proofs.Cases.{by-test}
+use Rattle.laws.proofs.Cases.{by-test, or-true}
 use Rattle.rule.specs.Rule.{hop, cutsUpTo}
 use Rattle.rule.proofs.Hops.{UpTo, past, leap, up-to, hop-rises, hop-long}
 use Rattle.lists.specs.WellFormed.{stepFits}
 use Rattle.terms.specs.declared.Settings.{Settings}
 use Rattle.bays.specs.declared.Verdict.the-variants.{Granted}
 use Rattle.bays.specs.Segments.{segments, segmentStart, segmentEnd}
-use Rattle.bays.specs.Bays.{Record, entries, bayOf, isDone, isSound, offsetCount, recordIn, risesWithin, isListed, followers, stepsWithin, markerFits, Holds}
+use Rattle.bays.specs.Bays.{Record, entries, bayOf, isDone, isSound, offsetCount, recordIn, risesWithin, isListed, followers, stepsWithin, fromMarker, markerFits, Holds}
 use Rattle.recording.specs.Records.{slowRecord, recordAfter, isMarker, prepend, segmentRecord}
 use Rattle.bays.specs.Judging.{bayJudged, baysJudged}
 use Rattle.recording.proofs.Marking.{Marks, none-left, then-mark, marks-in}
@@ -78,26 +78,22 @@ module _ (mark : ℕ → Bool) (lo hi : ℕ) (positive : 0 < lo) (order : lo ≤
 
   -- an offset that is not the marker, before the others
   fits-on : (i b : ℕ) (r : Record) → eqb b (r .marker) ≡ false → markerFits lo hi (suc i) (prepend b r) ≡ markerFits lo hi (suc i) r
-  unfolding markerFits prepend isListed followers
+  unfolding markerFits fromMarker prepend isListed followers
   fits-on i b r other = rw (other, isListed, followers)
 
   fits-after : (i : ℕ) {a : ℕ} {marks : List ℕ} → Marks mark e a marks → markerFits lo hi (suc i) (recordAfter mark lo hi e a marks) ≡ true
-  unfolding markerFits recordAfter isListed followers stepsWithin cutsUpTo
+  unfolding markerFits fromMarker recordAfter isListed followers stepsWithin cutsUpTo
   fits-after i (none-left u) = refl
   fits-after i {a} (then-mark b {l = marks} above inside m u r) =
       by-test (isMarker lo hi a b)
       (λ t. ap (markerFits lo hi (suc i)) (at-marker mark lo hi e a b marks t)
-      ∙ rw (eq-eqb b b refl, isListed, followers) (at-least (eqb b 0) (steps-hops (up-to (hop mark lo hi) e (hop-rises mark lo hi positive order) b))))
+      ∙ rw (eq-eqb b b refl, isListed, followers) (rw or-true (steps-hops (up-to (hop mark lo hi) e (hop-rises mark lo hi positive order) b))))
       (λ t. ap (markerFits lo hi (suc i)) (no-marker mark lo hi e a b marks t)
       ∙ fits-on i b (recordAfter mark lo hi e b marks) (marker-later mark lo hi e b (omega arith) (omega arith) r)
       ∙ fits-after i r)
-    where
-      at-least : (x : Bool) {y : Bool} → y ≡ true → (x || true) && y ≡ true
-      at-least true h = h
-      at-least false h = h
 
   fits-slow : (i : ℕ) {a : ℕ} {marks : List ℕ} → Marks mark e a marks → markerFits lo hi (suc i) (slowRecord mark lo hi e marks) ≡ true
-  unfolding markerFits slowRecord isListed followers stepsWithin
+  unfolding markerFits fromMarker slowRecord isListed followers stepsWithin
   fits-slow i (none-left u) = refl
   fits-slow i {a} (then-mark b {l = marks} above inside m u r) =
       fits-on i b (recordAfter mark lo hi e b marks) (marker-later mark lo hi e b (omega arith) (omega arith) r) ∙ fits-after i r

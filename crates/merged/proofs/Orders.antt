@@ -7,7 +7,7 @@ use mathlib.Core.Logic.{_⊎_, inl, inr}
 use native.Mathlib.Nat.{mul-le-mul-right, suc-mul}
 use native.Mathlib.Omega.{arith}
 use lib.Dec.{leb, eqb}
-use lib.ListN.{length, take, drop, length-take, length-drop}
+use lib.ListN.{length, take, drop, length-take}
 use lib.Seq.{sets, length-sets, sets-eq}
 use borrow.Author.Tests.{leb-true, leb-false, ltb-true, eqb-true, eqb-false}
 use Rattle.laws.specs.Over.{over}
@@ -22,7 +22,7 @@ use Rattle.recording.specs.Records.{segmentOf}
 use Rattle.bays.specs.Judging.{judged, ifGranted}
 use Rattle.board.specs.Recording.{recordFits, recorded, withBay, segmentBoard, recordAll}
 use Rattle.bays.proofs.Verdicts.{by-verdict, granted}
-use Rattle.bays.proofs.Ranges.{bay-inside, BoardShape, board-shape}
+use Rattle.bays.proofs.Ranges.{bay-inside, length-bay, BoardShape, board-shape}
 use Rattle.laws.proofs.Sets.{sets-commute, part-same, part-other}
 
 by-same : {C : Type 0} (i j : ℕ) → (i ≡ j → C) → ((i ≡ j → ⊥) → C) → C
@@ -69,16 +69,15 @@ module _ (mark : ℕ → Bool) (s : Settings) (n size width : ℕ) where
     inside : i * width + width ≤ length board
     inside = bay-inside (segments size n) width i (length board) (shaped .1) (shaped .0 .enough)
 
-    length-bay : length (bayOf width board i) ≡ width
-    unfolding bayOf
-    length-bay = let fits = inside in rw (length-take, length-drop) (omega arith)
+    bay-long : length (bayOf width board i) ≡ width
+    bay-long = length-bay width board i inside
 
     stores-record : stores i board ≡ recorded (segmentOf mark s n size i) (bayOf width board i)
     unfolding storing
     stores-record = rw v
 
     stores-all : length (stores i board) ≡ width
-    stores-all = ap length stores-record ∙ length-recorded (segmentOf mark s n size i) (bayOf width board i) (rw length-bay (shaped .0 .wide)) ∙ length-bay
+    stores-all = ap length stores-record ∙ length-recorded (segmentOf mark s n size i) (bayOf width board i) (rw bay-long (shaped .0 .wide)) ∙ bay-long
 
   -- every call is a run of stores into its bay
   call-stores : (i : ℕ) (board : List ℕ) → call i board ≡ sets board (i * width) (stores i board)
@@ -107,7 +106,7 @@ module _ (mark : ℕ → Bool) (s : Settings) (n size width : ℕ) where
       let own : bayOf width (call i board) i ≡ stores i board =
       unfold bayOf in (ap (λ (b : List ℕ). take width (drop (i * width) b)) (call-stores i board)
       ∙ rw all at (part-same board (i * width) (stores i board) (rw all (inside i board v)))) in
-      (own ∙ stores-record i board v, length-bay i board v)
+      (own ∙ stores-record i board v, bay-long i board v)
 
   -- and changes no other bay
   pub other-kept : (i j : ℕ) (board : List ℕ) → (i ≡ j → ⊥) → bayOf width (segmentBoard mark s n size i width board) j ≡ bayOf width board j

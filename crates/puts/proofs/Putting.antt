@@ -70,5 +70,9 @@ pub all-made : {whole rest lent : List ℕ} {before after from : Made} {list₀ 
     → Puts lent from after list list′ → Puts whole before after list₀ list′
 all-made {rest = rest} u e p = ended (more _ (rest-is _ (sym (append-nil rest) ∙ ap (λ (l : List ℕ). l ++ []) (sym e)) u) refl refl p)
 
+-- the same cuts, said otherwise
+pub puts-are : {cuts cuts′ : List ℕ} {before after : Made} {list₀ list : List ℕ} → cuts ≡ cuts′ → Puts cuts before after list₀ list → Puts cuts′ before after list₀ list
+puts-are {before = before} {after} {list₀} {list} e p = subst (λ c. Puts c before after list₀ list) e p
+
 pub puts-long : {cuts : List ℕ} {before after : Made} {list₀ list : List ℕ} → Puts cuts before after list₀ list → length list ≡ length list₀
 puts-long {cuts} {before} {list₀ = list₀} p = ap length (p .kept) ∙ length-sets list₀ (before .count) cuts

@@ -7,7 +7,7 @@ use native.Mathlib.Numerals.{add-one}
 use native.Mathlib.Nat.{zero-add}
 use native.Mathlib.Omega.{arith}
 use lib.Dec.{eqb}
-use lib.ListN.{length, getD, take, drop, set}
+use lib.ListN.{length, set}
 use Rattle.laws.proofs.Cases.{by-test}
 use Rattle.rule.specs.Rule.{lastOr, closing}
 use Rattle.rule.proofs.Hops.{still-open, already}
@@ -22,11 +22,10 @@ use Rattle.puts.specs.Puts.{Puts}
 use Rattle.bays.specs.Judging.{baysJudged}
 use Rattle.laws.proofs.Last.{last-joined}
 use Rattle.walk.proofs.Offsets.{read-on, read-switch}
-use Rattle.bays.proofs.BayTests.{bay-lent}
-use Rattle.bays.proofs.Ranges.{lent-length, reach, from-reach, to-reach, spans}
+use Rattle.bays.proofs.Ranges.{length-bay, reach, from-reach, to-reach, spans}
 use Rattle.walk.proofs.Rises.{risen, rises-wider}
 use Rattle.bays.proofs.Verdicts.{Judged, each-granted}
-use Rattle.puts.proofs.Putting.{Underway, begin, more, one-more, ended, rest-is, all-made}
+use Rattle.puts.proofs.Putting.{puts-are, Underway, begin, more, one-more, ended, rest-is, all-made}
 use Rattle.laws.proofs.Sets.{sets-over}
 use Rattle.walk.proofs.Walks.{offset-last}
 
@@ -53,27 +52,16 @@ unfolding bayCuts
 bay-last lo hi zero positive r c e h t = rises-last (r .offsets) c e h t
 bay-last lo hi (suc i) positive r c e h t = marks-last lo hi (r .marker) positive (r .offsets) c e h t
 
--- one bay, its offsets as the code lends them
-pub lent-offsets : (bay : List ℕ) → take (getD bay 0 0 - 1 + 2 - 2) (drop 2 bay) ≡ recordIn bay .offsets
-unfolding recordIn offsetCount
-lent-offsets bay = let same : getD bay 0 0 - 1 + 2 - 2 ≡ getD bay 0 0 - 1 = omega arith in ap (λ (k : ℕ). take k (drop 2 bay)) same
-
-module _ (lo hi i : ℕ) (bay : List ℕ) {before after : Made} {list₀ list : List ℕ} where
-  pub first-bay : i ≡ 0 → Puts (take (getD bay 0 0 - 1 + 2 - 2) (drop 2 bay)) before after list₀ list
-      → Puts (bayCuts lo hi i (before .cut) (recordIn bay)) before after list₀ list
+-- segment 0, and any other
+module _ (lo hi c : ℕ) (r : Record) where
+  pub first-bay : (i : ℕ) → i ≡ 0 → bayCuts lo hi i c r ≡ r .offsets
   unfolding bayCuts
-  first-bay e p = rw e (rw (lent-offsets bay) at p)
+  first-bay i e = rw e
 
-  pub later-bay : (i ≡ 0 → ⊥) → Puts (readAsMarks lo hi (getD bay 1 0) (before .cut) (take (getD bay 0 0 - 1 + 2 - 2) (drop 2 bay))) before after list₀ list
-      → Puts (bayCuts lo hi i (before .cut) (recordIn bay)) before after list₀ list
-  later-bay ne p = go i ne
-    where
-      at-bay : Puts (readAsMarks lo hi (recordIn bay .marker) (before .cut) (recordIn bay .offsets)) before after list₀ list
-      at-bay = unfold recordIn in (rw (lent-offsets bay) at p)
-
-      go : (j : ℕ) → (j ≡ 0 → ⊥) → Puts (bayCuts lo hi j (before .cut) (recordIn bay)) before after list₀ list
-      go zero h = absurd (h refl)
-      go (suc j) h = unfold bayCuts in at-bay
+  pub later-bay : (i : ℕ) → (i ≡ 0 → ⊥) → bayCuts lo hi i c r ≡ readAsMarks lo hi (r .marker) c (r .offsets)
+  unfolding bayCuts
+  later-bay zero other = absurd (other refl)
+  later-bay (suc i) other = refl
 
 -- the end, once the last cuts are forced
 module _ (hi n : ℕ) (before forced : Made) (list₀ list : List ℕ) (ordered : before .count ≤ before .cut)
@@ -110,21 +98,13 @@ module _ (s : Settings) (n size width : ℕ) (board : List ℕ) (sized : 0 < siz
       let span = spans size n sized i h in
       rises-wider (recordIn (bayOf width board i) .offsets) c (segmentEnd size n i) c (2 ^ 40) (omega arith) (omega arith) (from-cut i c h low)
 
-  -- bay i as the code lends it is ready to be walked from the cut c
-  pub lent-ready : (i c : ℕ) → i < segments size n → c ≤ reach size n i → i * width + width ≤ length board → 2 ≤ width
-      → let lent = take (i * width + width - i * width) (drop (i * width) board) in
-      ((2 ≤ length lent) × (isDone lent ≡ true) × (offsetCount lent ≤ length lent - 2)) × (risesWithin c (2 ^ 40) (recordIn lent .offsets) ≡ true)
-  lent-ready i c h low fits wide =
+  -- bay i is ready to be walked from the cut c
+  pub ready : (i c : ℕ) → i < segments size n → c ≤ reach size n i → i * width + width ≤ length board → 2 ≤ width → (bay : List ℕ) → bay ≡ bayOf width board i
+      → ((2 ≤ length bay) × (isDone bay ≡ true) × (offsetCount bay ≤ length bay - 2)) × (risesWithin c (2 ^ 40) (recordIn bay .offsets) ≡ true)
+  ready i c h low fits wide bay is-bay =
       let j = judged-bay i h in
-      let long : 2 ≤ length (take (i * width + width - i * width) (drop (i * width) board)) = lent-length width board i fits wide in
-      let same = sym (bay-lent width board i) in (
-        (
-          long,
-          subst (λ b. isDone b ≡ true) same (j .done),
-          subst (λ b. offsetCount b ≤ length b - 2) same (j .few),
-        ),
-        subst (λ b. risesWithin c (2 ^ 40) (recordIn b .offsets) ≡ true) same (bay-ready i c h low),
-      )
+      let long : 2 ≤ length (bayOf width board i) = rw (length-bay width board i fits) wide in
+      rw is-bay ((long, j .done, j .few), bay-ready i c h low)
 
   pub low-after : (i c : ℕ) → i < segments size n → c ≤ reach size n i
       → lastOr c (bayCuts (s .minimum) (s .maximum) i c (recordIn (bayOf width board i))) ≤ reach size n (suc i)
@@ -154,13 +134,13 @@ start lo hi n size width board count list =
 
 module _ {lo hi n size width : ℕ} {board : List ℕ} {count : ℕ} {made₀ : Made} {list₀ list : List ℕ} {made : Made} {i : ℕ}
     (w : Walking lo hi n size width board count made₀ list₀ list made i) where
-  pub next-bay : i < count → {after : Made} {list′ : List ℕ}
-      → Puts (bayCuts lo hi i (made .cut) (recordIn (take (i * width + width - i * width) (drop (i * width) board)))) made after list list′
+  pub next-bay : i < count → {after : Made} {list′ : List ℕ} {bay : List ℕ} → bay ≡ bayOf width board i
+      → Puts (bayCuts lo hi i (made .cut) (recordIn bay)) made after list list′
       → lastOr (made .cut) (bayCuts lo hi i (made .cut) (recordIn (bayOf width board i))) ≤ reach size n (suc i)
       → Walking lo hi n size width board count made₀ list₀ list′ after (i + 1)
   unfolding baysCuts
-  next-bay h {after} {list′} lent low =
-      let own : Puts (bayCuts lo hi i (made .cut) (recordIn (bayOf width board i))) made after list list′ = rw (bay-lent width board i) at lent in
+  next-bay h is-bay walked low =
+      let own = puts-are (ap (λ (b : List ℕ). bayCuts lo hi i (made .cut) (recordIn b)) is-bay) walked in
       let left : count - i ≡ suc (count - (i + 1)) = omega arith in
       record {
         passed = omega arith;

@@ -23,8 +23,7 @@ fn walk_bay(list: &mut [u64], made: Made, i: u64, bay: &[u64], minimum: u64, max
     requires { ⌜ risesWithin (made .cut) (2 ^ 40) (recordIn (now bay) .offsets) ≡ true ⌝ }
     ensures { λ r. ⌜ Puts (bayCuts minimum maximum i (made .cut) (recordIn (now (bay .entry)))) made r (now (list .entry)) (now (list .exit)) ⌝ }
 {
-    let count = bay[0] - 1;
-    let offsets = &bay[2..count as usize + 2];
+    let offsets = bays::reading::offsets_in(bay);
     if i == 0 {
         return reading::take_offsets(list, made, offsets);
     }
@@ -51,15 +50,8 @@ fn walk_bays(
     let mut made = Made { count: 0, cut: 0 };
     let mut i = 0;
     while i < count {
-        let start = (i * width) as usize;
-        made = walk_bay(
-            list,
-            made,
-            i,
-            &board[start..start + width as usize],
-            minimum,
-            maximum,
-        );
+        let bay = bays::reading::bay_at(board, width, i);
+        made = walk_bay(list, made, i, bay, minimum, maximum);
         i += 1;
     }
     made

@@ -4,7 +4,7 @@ use Prim.Native.Nat.{_-_}
 use native.Mathlib.Omega.{arith}
 use Rattle.terms.proofs.Ranges.{ranges}
 use Rattle.bays.proofs.Ranges.{board-shape, bay-within, reach-within}
-use Rattle.walk.proofs.BayWalks.{Walking, start, next-bay, all-walked, lent-ready, low-after}
+use Rattle.walk.proofs.BayWalks.{Walking, start, next-bay, all-walked, ready, low-after}
 use Rattle.puts.proofs.Putting.{same-long}
 use Rattle.walk.proofs.walk_bays.Statement.{statement}
 use Rattle.walk.proofs.walk_bays.Tie as tie
@@ -21,26 +21,21 @@ segments-of-requires c κs = board-shape _ _ _ _ (c .before .before .pre .0 .2) 
 loop-holds : tie.Need-loop-holds Inv-loop μ-loop
 loop-holds c = start _ _ _ _ _ _ _ _
 
-mul-start : tie.Need-mul-start Inv-loop μ-loop
-mul-start c = omega (arith, bay-within (board-shape _ _ _ _ (c .before .before .before .before .before .pre .0 .2)) (c .before .loop .i) (c .before .before .segments-of .result) (c .before .before .segments-of .ensures) (c .loop-test .taken), c .before .before .before .before .before .good)
-
-add-walk-bay : tie.Need-add-walk-bay Inv-loop μ-loop
-add-walk-bay c = omega (arith, bay-within (board-shape _ _ _ _ (c .before .before .before .before .before .before .pre .0 .2)) (c .before .before .loop .i) (c .before .before .before .segments-of .result) (c .before .before .before .segments-of .ensures) (c .before .loop-test .taken), c .before .before .before .before .before .before .good)
-
-mul-walk-bay : tie.Need-mul-walk-bay Inv-loop μ-loop
-mul-walk-bay c = omega (arith, bay-within (board-shape _ _ _ _ (c .before .before .before .before .before .before .pre .0 .2)) (c .before .before .loop .i) (c .before .before .before .segments-of .result) (c .before .before .before .segments-of .ensures) (c .before .loop-test .taken), c .before .before .before .before .before .before .good)
-
-sub-walk-bay : tie.Need-sub-walk-bay Inv-loop μ-loop
-sub-walk-bay c = search needs
-
-part-walk-bay-start : tie.Need-part-walk-bay-start Inv-loop μ-loop
-part-walk-bay-start c = search needs
-
-part-walk-bay-end : tie.Need-part-walk-bay-end Inv-loop μ-loop
-part-walk-bay-end c = bay-within (board-shape _ _ _ _ (c .before .before .before .before .before .before .pre .0 .2)) (c .before .before .loop .i) (c .before .before .before .segments-of .result) (c .before .before .before .segments-of .ensures) (c .before .loop-test .taken)
+bay-at-requires : tie.Need-bay-at-requires Inv-loop μ-loop
+bay-at-requires c κs = bay-within (board-shape _ _ _ _ (c .before .before .before .before .before .pre .0 .2)) (c .before .loop .i) (c .before .before .segments-of .result) (c .before .before .segments-of .ensures) (c .loop-test .taken)
 
 walk-bay-requires : tie.Need-walk-bay-requires Inv-loop μ-loop
-walk-bay-requires c κs = ((c .before .before .before .loop .inv .way .behind, omega (arith, ranges _ (c .before .before .before .before .before .before .before .pre .0 .0))), lent-ready (c .before .before .before .before .before .before .before .args .settings) (c .before .before .before .before .before .before .before .args .n) (c .before .before .before .before .before .before .before .args .size) (c .before .before .before .before .before .before .before .args .width) (c .before .before .before .before .before .before .before .args .board .now) (omega (arith, board-shape _ _ _ _ (c .before .before .before .before .before .before .before .pre .0 .2) .large)) (omega (arith, ranges _ (c .before .before .before .before .before .before .before .pre .0 .0))) (c .before .before .before .before .before .before .before .pre .0 .1) (c .before .before .before .before .before .before .before .pre .1) (c .before .before .before .loop .i) (c .before .before .before .loop .made .cut) (omega (arith, c .before .before .before .before .segments-of .ensures, c .before .before .loop-test .taken)) (c .before .before .before .loop .inv .low) (bay-within (board-shape _ _ _ _ (c .before .before .before .before .before .before .before .pre .0 .2)) (c .before .before .before .loop .i) (c .before .before .before .before .segments-of .result) (c .before .before .before .before .segments-of .ensures) (c .before .before .loop-test .taken)) (board-shape _ _ _ _ (c .before .before .before .before .before .before .before .pre .0 .2) .wide))
+walk-bay-requires c κs =
+    let start = c .before .before .before .before .before .before .before in
+    let shape = board-shape _ _ _ _ (start .pre .0 .2) in
+    let here = c .before .before .before .loop in
+    let count = c .before .before .before .before .segments-of in
+    let allowed = ranges _ (start .pre .0 .0) in (
+      (here .inv .way .behind, omega (arith, allowed .ordered, allowed .window-fits)),
+      ready (start .args .settings) (start .args .n) (start .args .size) (start .args .width) (start .args .board .now) (omega (arith, shape .large)) (omega (arith, allowed .ordered, allowed .window-fits))
+          (start .pre .0 .1) (start .pre .1) (here .i) (here .made .cut) (omega (arith, count .ensures, c .before .before .loop-test .taken)) (here .inv .low)
+          (bay-within shape (here .i) (count .result) (count .ensures) (c .before .before .loop-test .taken)) (shape .wide) _ (c .before .bay-at .ensures),
+    )
 
 add-i : tie.Need-add-i Inv-loop μ-loop
 add-i c = search needs
@@ -49,7 +44,15 @@ loop-less : tie.Need-loop-less Inv-loop μ-loop
 loop-less c = omega (arith, c .before .before .before .before .before .loop-test .taken)
 
 loop-again : tie.Need-loop-again Inv-loop μ-loop
-loop-again c = next-bay (c .before .before .before .before .before .before .loop .inv) (c .before .before .before .before .before .loop-test .taken) (c .before .before .walk-bay .ensures) (low-after (c .before .before .before .before .before .before .before .before .before .before .args .settings) (c .before .before .before .before .before .before .before .before .before .before .args .n) (c .before .before .before .before .before .before .before .before .before .before .args .size) (c .before .before .before .before .before .before .before .before .before .before .args .width) (c .before .before .before .before .before .before .before .before .before .before .args .board .now) (omega (arith, board-shape _ _ _ _ (c .before .before .before .before .before .before .before .before .before .before .pre .0 .2) .large)) (omega (arith, ranges _ (c .before .before .before .before .before .before .before .before .before .before .pre .0 .0))) (c .before .before .before .before .before .before .before .before .before .before .pre .0 .1) (c .before .before .before .before .before .before .before .before .before .before .pre .1) (c .before .before .before .before .before .before .loop .i) (c .before .before .before .before .before .before .loop .made .cut) (omega (arith, c .before .before .before .before .before .before .before .segments-of .ensures, c .before .before .before .before .before .loop-test .taken)) (c .before .before .before .before .before .before .loop .inv .low))
+loop-again c =
+    let start = c .before .before .before .before .before .before .before .before .before .before in
+    let shape = board-shape _ _ _ _ (start .pre .0 .2) in
+    let here = c .before .before .before .before .before .before .loop in
+    let count = c .before .before .before .before .before .before .before .segments-of in
+    let allowed = ranges _ (start .pre .0 .0) in
+    next-bay (here .inv) (c .before .before .before .before .before .loop-test .taken) (c .before .before .before .before .bay-at .ensures) (c .before .before .walk-bay .ensures)
+    (low-after (start .args .settings) (start .args .n) (start .args .size) (start .args .width) (start .args .board .now) (omega (arith, shape .large)) (omega (arith, allowed .ordered, allowed .window-fits))
+    (start .pre .0 .1) (start .pre .1) (here .i) (here .made .cut) (omega (arith, count .ensures, c .before .before .before .before .before .loop-test .taken)) (here .inv .low))
 
 same-length : tie.Need-same-length Inv-loop μ-loop
 same-length c = same-long (c .before .loop .inv .way)
@@ -65,12 +68,7 @@ walk-bays-spec =
     μ-loop
     segments-of-requires
     loop-holds
-    mul-start
-    add-walk-bay
-    mul-walk-bay
-    sub-walk-bay
-    part-walk-bay-start
-    part-walk-bay-end
+    bay-at-requires
     walk-bay-requires
     add-i
     loop-less

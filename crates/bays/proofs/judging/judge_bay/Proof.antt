@@ -2,7 +2,7 @@
 use native.Mathlib.Omega.{arith}
 use Rattle.laws.proofs.Cases.{test-passed, test-failed}
 use Rattle.bays.specs.Judging.{bayJudged}
-use Rattle.bays.proofs.BayTests.{is-done, not-done}
+use Rattle.bays.proofs.Sound.{is-done, not-done}
 use Rattle.bays.proofs.judging.judge_bay.Statement.{statement}
 use Rattle.bays.proofs.judging.judge_bay.Tie as tie
 

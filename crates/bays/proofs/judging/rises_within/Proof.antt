@@ -4,7 +4,9 @@ use mathlib.Core.Path.{_≡_, refl, sym, _∙_}
 use Prim.Native.Nat.{_≤_, _-_}
 use lib.ListN.{length, drop}
 use Rattle.bays.specs.Bays.{risesWithin}
-use Rattle.bays.proofs.BayTests.{rise-passed, rise-low, rise-past, rise-end}
+use lib.ListN.{drop-of-length-le}
+use borrow.Author.Tests.{le-leb, lt-leb, lt-ltb, le-ltb}
+use Rattle.bays.proofs.Offsets.{rise-at}
 use Rattle.bays.proofs.judging.rises_within.Statement.{statement}
 use Rattle.bays.proofs.judging.rises_within.Tie as tie
 
@@ -24,10 +26,10 @@ shared-slice-read-p : tie.Need-shared-slice-read-p Inv-loop μ-loop
 shared-slice-read-p c = search needs
 
 returns : tie.Need-returns Inv-loop μ-loop
-returns c = sym (c .before .before .before .loop .inv .1 ∙ rise-low _ _ _ _ (c .before .before .loop-test .taken) (c .if1 .taken))
+returns c = sym (c .before .before .before .loop .inv .1 ∙ rise-at _ _ (c .before .before .loop-test .taken) _ _ ∙ rw (le-ltb _ _ (c .if1 .taken)))
 
 returns-2 : tie.Need-returns-2 Inv-loop μ-loop
-returns-2 c = sym (c .before .before .before .before .loop .inv .1 ∙ rise-past _ _ _ _ (c .before .before .before .loop-test .taken) (c .if2 .taken))
+returns-2 c = sym (c .before .before .before .before .loop .inv .1 ∙ rise-at _ _ (c .before .before .before .loop-test .taken) _ _ ∙ rw (lt-ltb _ _ (c .before .if1 .left), lt-leb _ _ (c .if2 .taken)))
 
 add-k : tie.Need-add-k Inv-loop μ-loop
 add-k c = search needs
@@ -36,10 +38,11 @@ loop-less : tie.Need-loop-less Inv-loop μ-loop
 loop-less c = search needs
 
 loop-again : tie.Need-loop-again Inv-loop μ-loop
-loop-again c = (search needs, c .before .before .before .before .loop .inv .1 ∙ rise-passed _ _ _ _ (c .before .before .before .loop-test .taken) (c .before .if1 .left) (c .if2 .left))
+loop-again c = (search needs, c .before .before .before .before .loop .inv .1 ∙ rise-at _ _ (c .before .before .before .loop-test .taken) _ _ ∙ rw (lt-ltb _ _ (c .before .if1 .left), le-leb _ _ (c .if2 .left)))
 
 returns-3 : tie.Need-returns-3 Inv-loop μ-loop
-returns-3 c = sym (c .before .loop .inv .1 ∙ rise-end _ _ _ _ (c .loop-test .left))
+unfolding risesWithin
+returns-3 c = sym (c .before .loop .inv .1 ∙ rw (drop-of-length-le _ (c .loop-test .left)))
 
 pub rises-within-spec : {M : Type 1} → statement M
 rises-within-spec =

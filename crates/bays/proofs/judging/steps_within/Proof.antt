@@ -5,7 +5,8 @@ use Prim.Native.Nat.{_≤_, _-_}
 use lib.ListN.{length, drop}
 use Rattle.laws.proofs.Cases.{test-passed, test-failed}
 use Rattle.bays.specs.Bays.{stepsWithin}
-use Rattle.bays.proofs.BayTests.{step-passed, step-refused, steps-end}
+use lib.ListN.{drop-of-length-le}
+use Rattle.bays.proofs.Offsets.{step-at}
 use Rattle.bays.proofs.judging.steps_within.Statement.{statement}
 use Rattle.bays.proofs.judging.steps_within.Tie as tie
 
@@ -28,7 +29,7 @@ step-fits-requires : tie.Need-step-fits-requires Inv-loop μ-loop
 step-fits-requires c κs = search needs
 
 returns : tie.Need-returns Inv-loop μ-loop
-returns c = sym (c .before .before .before .before .loop .inv .1 ∙ step-refused _ _ _ _ _ (c .before .before .before .loop-test .taken) (test-failed (c .before .step-fits .ensures) (c .if1 .taken)))
+returns c = sym (c .before .before .before .before .loop .inv .1 ∙ step-at _ _ (c .before .before .before .loop-test .taken) _ _ _ ∙ rw (test-failed (c .before .step-fits .ensures) (c .if1 .taken)))
 
 add-k : tie.Need-add-k Inv-loop μ-loop
 add-k c = search needs
@@ -37,10 +38,11 @@ loop-less : tie.Need-loop-less Inv-loop μ-loop
 loop-less c = search needs
 
 loop-again : tie.Need-loop-again Inv-loop μ-loop
-loop-again c = (search needs, c .before .before .before .before .loop .inv .1 ∙ step-passed _ _ _ _ _ (c .before .before .before .loop-test .taken) (test-passed (c .before .step-fits .ensures) (c .if1 .left)))
+loop-again c = (search needs, c .before .before .before .before .loop .inv .1 ∙ step-at _ _ (c .before .before .before .loop-test .taken) _ _ _ ∙ rw (test-passed (c .before .step-fits .ensures) (c .if1 .left)))
 
 returns-2 : tie.Need-returns-2 Inv-loop μ-loop
-returns-2 c = sym (c .before .loop .inv .1 ∙ steps-end _ _ _ _ _ (c .loop-test .left))
+unfolding stepsWithin
+returns-2 c = sym (c .before .loop .inv .1 ∙ rw (drop-of-length-le _ (c .loop-test .left)))
 
 pub steps-within-spec : {M : Type 1} → statement M
 steps-within-spec =
