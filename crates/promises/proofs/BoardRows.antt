@@ -29,8 +29,8 @@ use Rattle.walk.specs.Walk.{boardWalk}
 use Rattle.recording.specs.Records.{segmentOf}
 use Rattle.board.specs.Recording.{recordFits, recordAnswer, recorded, bayAnswer, bayAfter, segmentAnswer, segmentBoard}
 use Rattle.promises.specs.Rows.{Row, row, whether, firstRow, segmentRows, bayRows, mergeRows}
-use Rattle.promises.proofs.Rows.{unless-not, unless-at-most}
-use Rattle.promises.proofs.Leaves.{Leaves, guard-leaves}
+use Rattle.promises.specs.Leaves.{Leaves, BayLeaves, BoardLeaves}
+use Rattle.promises.proofs.Unless.{unless-not, unless-at-most, guard-leaves}
 
 -- the number of a verdict, or what comes later where it is granted
 abbrev verdictOr : ℕ → Verdict → ℕ
@@ -138,11 +138,6 @@ merge-leaves s n size width board list =
     granted-leaves (mergeJudged s n size width board (length list)) (writtenAnswer walk (length list)) (plain-merge s n size width board (length list))
     (guard-leaves answerNumber (leb (length walk) (length list)) walk list refl refl)
 
--- what recording leaves in a bay lent alone: 6 marks it not done and fills it as far as it goes, every other refusal leaves it as it was
-pub record BayLeaves (number : ℕ) (offsets before after : List ℕ) : Type 0 where
-  pub untouched : (number ≡ 0 → ⊥) → (number ≡ 6 → ⊥) → after ≡ before
-  pub too-long : number ≡ 6 → after ≡ 0 ∷ 0 ∷ take (length before - 2) offsets
-
 fitting-leaves : (fits : Bool) (r : Record) (bay : List ℕ)
     → BayLeaves (answerNumber (unless fits (Refused RecordTooLong) (Wrote (2 + length (r .offsets))))) (r .offsets) bay
     (unless fits (0 ∷ 0 ∷ take (length bay - 2) (r .offsets)) (over (entries r) bay))
@@ -164,13 +159,6 @@ record-leaves mark s n size i bay =
     let r = segmentOf mark s n size i in
     granted-bay (judged s n (bayFits size (length bay) n i)) (recordAnswer r (length bay)) (plain-judged 6 (lit< tt) (omega arith) s n (bayFits size (length bay) n i))
     (fitting-leaves (recordFits r (length bay)) r bay)
-
--- what recording leaves in a board of bays of so many numbers: 6 leaves its own bay as in a bay lent alone, every other refusal leaves the board as it was,
--- and every other bay stays as it was, on success too
-pub record BoardLeaves (number width i : ℕ) (offsets before after : List ℕ) : Type 0 where
-  pub untouched : (number ≡ 0 → ⊥) → (number ≡ 6 → ⊥) → after ≡ before
-  pub too-long : number ≡ 6 → bayOf width after i ≡ 0 ∷ 0 ∷ take (width - 2) offsets
-  pub others-stay : (j : ℕ) → (i ≡ j → ⊥) → bayOf width after j ≡ bayOf width before j
 
 pub segment-leaves : (mark : ℕ → Bool) (s : Settings) (n size i width : ℕ) (board : List ℕ)
     → BoardLeaves (answerNumber (segmentAnswer mark s n size i width (length board))) width i (segmentOf mark s n size i .offsets) board

@@ -20,7 +20,7 @@ use Rattle.bays.specs.Bays.{entries, bayOf}
 use Rattle.recording.specs.Records.{marksAmong, marksIn, isMarker, prepend, recordAfter, slowRecord, segmentRecord}
 use Rattle.bays.specs.Judging.{judged}
 use Rattle.board.specs.Recording.{recordFits, recordAnswer, recorded, withBay, segmentAnswer, segmentBoard}
-use Rattle.promises.specs.Figures.{Figure, power, cuts, segment, Holds, starred, logA, logC}
+use Rattle.promises.specs.Figures.{Figure, power, cuts, segment, Holds, starred, Each, none, and-each, logA, logC}
 
 sameLists : List ℕ → List ℕ → Bool
 sameLists [] [] = true
@@ -54,11 +54,6 @@ told (segment settings log size width i board number after) e = let both = both-
 testAll : List Figure → Bool
 testAll [] = true
 testAll (f ∷ fs) = test f && testAll fs
-
--- each figure of a table holds
-pub data Each : List Figure → Type 0 where
-  none : Each []
-  and-each : {f : Figure} {fs : List Figure} → Holds f → Each fs → Each (f ∷ fs)
 
 each : (fs : List Figure) → testAll fs ≡ true → Each fs
 unfolding testAll
