@@ -19,7 +19,7 @@ pub fn segments_of(size: u64, n: u64) -> u64
     whole + 1
 }
 
-// Where the segment that begins at an offset ends.
+// Where so many bytes from an offset on end, in a log of n bytes: a segment, or a piece.
 pub fn end_of(start: u64, size: u64, n: u64) -> u64
     requires { ⌜ (start ≤ n) × (n ≤ 2 ^ 40) × (size ≤ 2 ^ 24) ⌝ }
     ensures { λ r. ⌜ r ≡ min (start + size) n ⌝ }

@@ -8,10 +8,9 @@ use native.Mathlib.Omega.{arith}
 use lib.Dec.{eqb}
 use Rattle.laws.proofs.Cases.{by-lt, and-false}
 use Rattle.rule.specs.Rule.{hop, lastOr, cutsUpTo, Unmarked}
-use Rattle.rule.proofs.First.{first-none}
 use Rattle.rule.proofs.Hops.{UpTo, past, leap, up-to, stands, last-is, up-to-joined, hop-rises, unmarked-before}
 use Rattle.walk.specs.Walk.{forcedUpTo, readOffset, readAsMarks}
-use Rattle.merged.proofs.Marker.{hop-to}
+use Rattle.rule.proofs.Leaps.{first-hop, forced-hop}
 use Rattle.walk.proofs.Offsets.{forced-rises, forced-up-to, forced-last, offset-near, offset-far, read-on}
 
 -- a run of hops up to d is one up to any e between its last hop and the next
@@ -53,7 +52,7 @@ module _ (mark : ℕ → Bool) (lo hi : ℕ) (positive : 0 < lo) (order : lo ≤
   pub one-cut : (c p : ℕ) → c + lo ≤ p → p ≤ c + hi → mark p ≡ true → Unmarked mark (c + lo) p → Walked mark lo hi c p (p ∷ []) p
   one-cut c p far near m u =
       record {
-        hopped = single (hop mark lo hi) rises c p (hop-to mark lo hi c p far near m u);
+        hopped = single (hop mark lo hi) rises c p (first-hop mark lo hi c p far near m u);
         reached = omega arith;
         clear = λ q x y. absurd (omega arith);
       }
@@ -72,10 +71,9 @@ module _ (mark : ℕ → Bool) (lo hi : ℕ) (positive : 0 < lo) (order : lo ≤
 
   -- where there is no mark, the forced cuts are the hops
   forced-hops : (e : ℕ) {c m : ℕ} {l : List ℕ} → Unmarked mark (c + lo) (suc e) → UpTo (λ (x : ℕ). x + hi) e c l m → UpTo (hop mark lo hi) m c l m
-  unfolding hop
   forced-hops e u (past {c = c} b) = past (rises c)
   forced-hops e u (leap {c = c} {l = l} {m = m} b r) =
-      let here : hop mark lo hi c ≡ c + hi = first-none mark (c + hi) (suc hi - lo) (c + lo) (λ q x y. u q x (omega arith)) in
+      let here : hop mark lo hi c ≡ c + hi = forced-hop mark lo hi c (λ q x y. u q x (omega arith)) in
       let on : c + hi ≤ m = stands (λ (x : ℕ). x + hi) e (forced-rises hi (omega arith)) r .from-start in
       let rest : UpTo (hop mark lo hi) m (c + hi) l m = forced-hops e (λ q x y. u q (omega arith) y) r in
       subst (λ x. UpTo (hop mark lo hi) m c (x ∷ l) m) here

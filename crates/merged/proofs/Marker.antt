@@ -7,20 +7,10 @@ use mathlib.Core.List.{List}
 use native.Mathlib.Omega.{arith}
 use Rattle.laws.proofs.Cases.{by-lt, clash}
 use Rattle.rule.specs.Rule.{hop, Unmarked}
-use Rattle.rule.proofs.First.{first-at}
+use Rattle.rule.proofs.Leaps.{first-hop}
 use Rattle.rule.proofs.Hops.{UpTo, stands, hop-rises, unmarked-before}
 
 module _ (mark : ℕ → Bool) (lo hi : ℕ) where
-  -- a first mark that is far enough from the cut c, and not past maximum, is the next cut
-  pub hop-to : (c b : ℕ) → c + lo ≤ b → b ≤ c + hi → mark b ≡ true → Unmarked mark (c + lo) b → hop mark lo hi c ≡ b
-  unfolding hop
-  hop-to c b far near m u = first-at mark (c + hi) (suc hi - lo) (c + lo) b far (omega arith) m u
-
-  -- the same from a mark a that the cut c is at, or less than minimum before
-  pub marker-hop : (c a b : ℕ) → c ≤ a → a < c + lo → a + lo ≤ b → b + lo ≤ a + hi → mark b ≡ true → Unmarked mark (suc a) b
-      → hop mark lo hi c ≡ b
-  marker-hop c a b h near far wide m u = hop-to c b (omega arith) (omega arith) m (λ q x y. u q (omega arith) y)
-
   -- a and b are neighbour marks with minimum <= b - a <= maximum - minimum, and c is the last cut at or below a: then b is the next cut
   pub marker-lemma : 0 < lo → lo ≤ hi → (a b : ℕ) {start c : ℕ} {l : List ℕ} → mark a ≡ true → mark b ≡ true → Unmarked mark (suc a) b
       → a + lo ≤ b → b + lo ≤ a + hi → start ≤ a → UpTo (hop mark lo hi) a start l c → hop mark lo hi c ≡ b
@@ -28,5 +18,5 @@ module _ (mark : ℕ → Bool) (lo hi : ℕ) where
       let s = stands (hop mark lo hi) a (hop-rises mark lo hi positive order) r in
       let at : c ≤ a = s .reached h in
       by-lt a (c + lo)
-      (λ near. marker-hop c a b at near far wide mb u)
+      (λ near. first-hop mark lo hi c b (omega arith) (omega arith) mb (λ q x y. u q (omega arith) y))
       (λ passed. absurd (clash (sym ma ∙ unmarked-before mark lo hi c a passed (s .ahead))))

@@ -1,14 +1,14 @@
 -- Reading true records: the offsets of a slow record, read as marks up to the marker, are the segment's cuts; and over all bays the walk's list is the log's.
-use Prim.Native.Nat.{ℕ, zero, suc, _+_, _-_, _≤_, _<_, min}
+use Prim.Native.Nat.{ℕ, zero, suc, _+_, _-_, _≤_, _<_}
 use mathlib.Core.Path.{_≡_, refl, sym, ap, _∙_, subst}
 use mathlib.Core.Bool.{Bool}
 use mathlib.Core.List.{List, [], _∷_, append-assoc}
 use native.Mathlib.Omega.{arith}
 use borrow.Author.Tests.{eq-eqb}
 use Rattle.laws.proofs.Cases.{by-lt, by-test}
-use Rattle.rule.specs.Rule.{hop, lastOr, cuts, cutsUpTo, Unmarked, log-ends}
-use Rattle.rule.proofs.Next.{next-only}
-use Rattle.rule.proofs.Hops.{hop-rises, hop-long, next-hop, hop-on, cuts-by-hops}
+use Rattle.rule.specs.Rule.{hop, lastOr, cuts, cutsUpTo, Unmarked}
+use Rattle.rule.proofs.Leaps.{past-hop}
+use Rattle.rule.proofs.Hops.{hop-rises, cuts-by-hops}
 use Rattle.bays.specs.Segments.{segments, segmentStart, segmentEnd}
 use Rattle.bays.specs.Bays.{Record}
 use Rattle.recording.specs.Records.{slowRecord, recordAfter, isMarker, prepend, segmentRecord}
@@ -62,14 +62,6 @@ module _ (mark : ℕ → Bool) (lo hi : ℕ) (positive : 0 < lo) (order : lo ≤
       (marker-later mark lo hi e b (omega arith) (omega arith) r)
       (λ d x y. read-after within r d x y)
 
--- no mark up to n, and no cut forced there: the next hop is past n
-past-end : (mark : ℕ → Bool) (lo hi : ℕ) → lo ≤ hi → (n m : ℕ) → n < m + hi → Unmarked mark (m + lo) (suc n) → n < hop mark lo hi m
-past-end mark lo hi order n m near clear =
-    let short : min (hop mark lo hi m) n ≡ n = sym (next-hop mark lo hi n m) ∙ next-only mark lo hi n m (log-ends near clear) in
-    by-lt n (m + lo)
-    (λ h. omega (arith, hop-long mark lo hi m order))
-    (λ h. hop-on mark lo hi m n (omega arith) near (clear n h (omega arith)))
-
 -- over all bays
 module _ (mark : ℕ → Bool) (lo hi : ℕ) (positive : 0 < lo) (order : lo ≤ hi) (size n : ℕ) (sized : 0 < size) where
   -- from cut c, with nothing left to cut before segment i, through its bay
@@ -111,6 +103,6 @@ module _ (mark : ℕ → Bool) (lo hi : ℕ) (positive : 0 < lo) (order : lo ≤
         let f = forced-walk mark lo hi positive order (lastOr 0 made) n (w .reached) (w .clear) in
         let rest : List ℕ = forcedUpTo hi n (lastOr 0 made) in
         let whole = joined mark lo hi positive order w (f .0) in
-        let ahead = past-end mark lo hi order n (lastOr (lastOr 0 made) rest) (f .1) (f .0 .clear) in
+        let ahead = past-hop mark lo hi (lastOr (lastOr 0 made) rest) n (f .1) (f .0 .clear) in
         let r = up-to-moved (hop mark lo hi) (hop-rises mark lo hi positive order) _ n (whole .reached) ahead (whole .hopped) in
         sym (cuts-by-hops mark lo hi positive order n r ∙ append-assoc made rest _)

@@ -21,7 +21,8 @@ use Rattle.bays.specs.Bays.{Record}
 use Rattle.recording.specs.Records.{segmentRecord, slowRecord, marksIn, segmentOf}
 use Rattle.recording.specs.Stretches.{markFrom, slowIn, Records}
 use Rattle.bays.proofs.Ranges.{begins-below}
-use Rattle.recording.proofs.Alike.{cuts-alike, slow-alike}
+use Rattle.rule.proofs.Leaps.{cuts-alike}
+use Rattle.recording.proofs.Alike.{slow-alike}
 
 window-part : (log : List ℕ) (base j n : ℕ) → j + 48 ≤ n → base + n ≤ length log → window (take n (drop base log)) j ≡ window log (base + j)
 window-part log base j n h fits =

@@ -23,55 +23,56 @@ use Rattle.recording.proofs.Marking.{marks-next, marks-none}
 use Rattle.recording.proofs.After.{at-marker, no-marker}
 use Rattle.puts.proofs.Putting.{Underway, begin, one-more, rest-is, ended, all-made}
 
--- from a mark of a stretch to the next, which a search found or not
-module _ (s : Settings) (stretch : List ℕ) (base : ℕ) where
+-- the marks of a stretch past an offset, which a search found or not
+module _ (s : Settings) (stretch : List ℕ) (base at : ℕ) (next : Sought) (inside : at < length stretch) (k : Seek s stretch (at + 1) (length stretch) next) where
+  clear-moved : Unmarked (markFrom s stretch base) (suc (base + at)) (base + next .at)
+  unfolding markFrom
+  clear-moved q lo hi = k .clear (q - base) (omega arith) (omega arith)
+
+  told-moved : markFrom s stretch base (base + next .at) ≡ next .found
+  unfolding markFrom
+  told-moved = let same : base + next .at - base ≡ next .at = omega arith in ap (mark s stretch) same ∙ k .told
+
+  no-more-marks : next .found ≡ false → marksIn (markFrom s stretch base) (base + at) (base + length stretch) ≡ []
+  no-more-marks t =
+      let ends : next .at ≡ length stretch = k .ended t in
+      marks-none (markFrom s stretch base) (base + length stretch) (base + at) (omega arith)
+      (λ q lo hi. by-lt q (base + next .at) (clear-moved q lo) (λ h. ap (markFrom s stretch base) (omega arith) ∙ told-moved ∙ t))
+
+  then-marks : next .found ≡ true
+      → marksIn (markFrom s stretch base) (base + at) (base + length stretch) ≡ (base + next .at) ∷ marksIn (markFrom s stretch base) (base + next .at) (base + length stretch)
+  then-marks t =
+      marks-next (markFrom s stretch base) (base + length stretch) (base + at) (base + next .at) (omega (arith, k .begun)) (omega (arith, k .inside))
+      (told-moved ∙ t) clear-moved
+
+-- what is recorded after a mark of a stretch
+module _ (s : Settings) (stretch : List ℕ) (base at : ℕ) where
   -- nothing follows the stretch's end
-  pub after-end : (at : ℕ) → length stretch ≤ at → afterIn s stretch base at ≡ record { marker = 0; offsets = [] }
+  after-end : length stretch ≤ at → afterIn s stretch base at ≡ record { marker = 0; offsets = [] }
   unfolding afterIn recordAfter marksIn marksAmong
-  after-end at h = let none : base + length stretch - (base + at) ≡ 0 = omega arith in rw none
+  after-end h = let none : base + length stretch - (base + at) ≡ 0 = omega arith in rw none
 
-  module _ (at : ℕ) (next : Sought) (inside : at < length stretch) (k : Seek s stretch (at + 1) next) where
-    clear-moved : Unmarked (markFrom s stretch base) (suc (base + at)) (base + next .at)
-    unfolding markFrom
-    clear-moved q lo hi = k .clear (q - base) (omega arith) (omega arith)
-
-    told-moved : markFrom s stretch base (base + next .at) ≡ next .found
-    unfolding markFrom
-    told-moved = let same : base + next .at - base ≡ next .at = omega arith in ap (mark s stretch) same ∙ k .told
-
-    pub after-none : next .found ≡ false → afterIn s stretch base at ≡ record { marker = 0; offsets = [] }
+  module _ (next : Sought) (inside : at < length stretch) (k : Seek s stretch (at + 1) (length stretch) next) where
+    after-none : next .found ≡ false → afterIn s stretch base at ≡ record { marker = 0; offsets = [] }
     unfolding afterIn recordAfter
-    after-none t =
-        let ends : next .at ≡ length stretch = k .ended t in
-        rw (marks-none (markFrom s stretch base) (base + length stretch) (base + at) (omega arith)
-        (λ q lo hi. by-lt q (base + next .at) (clear-moved q lo) (λ h. ap (markFrom s stretch base) (omega arith) ∙ told-moved ∙ t)))
+    after-none t = rw (no-more-marks s stretch base at next inside k t)
 
     module _ (t : next .found ≡ true) where
-      next-marks : marksIn (markFrom s stretch base) (base + at) (base + length stretch)
-          ≡ (base + next .at) ∷ marksIn (markFrom s stretch base) (base + next .at) (base + length stretch)
-      next-marks =
-          marks-next (markFrom s stretch base) (base + length stretch) (base + at) (base + next .at) (omega (arith, k .begun)) (omega (arith, k .inside))
-          (told-moved ∙ t) clear-moved
-
       step-is : isMarker (s .minimum) (s .maximum) (base + at) (base + next .at)
           ≡ leb (s .minimum) (next .at - at) && leb (next .at - at) (s .maximum - s .minimum)
       unfolding isMarker
       step-is = let same : base + next .at - (base + at) ≡ next .at - at = omega arith in rw same
 
-      pub after-marker : leb (s .minimum) (next .at - at) && leb (next .at - at) (s .maximum - s .minimum) ≡ true
+      after-marker : leb (s .minimum) (next .at - at) && leb (next .at - at) (s .maximum - s .minimum) ≡ true
           → afterIn s stretch base at
           ≡ record { marker = base + next .at; offsets = (base + next .at) ∷ cutsUpTo (markFrom s stretch base) (s .minimum) (s .maximum) (base + length stretch) (base + next .at) }
       unfolding afterIn
-      after-marker m =
-          ap (recordAfter (markFrom s stretch base) (s .minimum) (s .maximum) (base + length stretch) (base + at)) next-marks
-          ∙ at-marker (markFrom s stretch base) (s .minimum) (s .maximum) (base + length stretch) (base + at) (base + next .at) _ (step-is ∙ m)
+      after-marker m = rw (then-marks s stretch base at next inside k t) (at-marker _ _ _ _ _ _ _ (step-is ∙ m))
 
-      pub after-mark : leb (s .minimum) (next .at - at) && leb (next .at - at) (s .maximum - s .minimum) ≡ false
+      after-mark : leb (s .minimum) (next .at - at) && leb (next .at - at) (s .maximum - s .minimum) ≡ false
           → afterIn s stretch base at ≡ prepend (base + next .at) (afterIn s stretch base (next .at))
       unfolding afterIn
-      after-mark m =
-          ap (recordAfter (markFrom s stretch base) (s .minimum) (s .maximum) (base + length stretch) (base + at)) next-marks
-          ∙ no-marker (markFrom s stretch base) (s .minimum) (s .maximum) (base + length stretch) (base + at) (base + next .at) _ (step-is ∙ m)
+      after-mark m = rw (then-marks s stretch base at next inside k t) (no-marker _ _ _ _ _ _ _ (step-is ∙ m))
 
 -- the marks up to `spot` are recorded, after the first
 pub record Slowly (s : Settings) (stretch : List ℕ) (base : ℕ) (first : Sought) (list₀ list : List ℕ) (spot : Sought) (count : ℕ) : Type 0 where
@@ -99,7 +100,7 @@ module _ {s : Settings} {stretch : List ℕ} {base : ℕ} {first : Sought} {list
   pub slow-end : length stretch ≤ spot .at → Records (afterIn s stretch base (first .at)) 1 (record { count = count; marker = 0 }) list₀ list
   slow-end h = stopped (after-end s stretch base (spot .at) h)
 
-  module _ (next : Sought) (room : spot .at < length stretch) (k : Seek s stretch (spot .at + 1) next) where
+  module _ (next : Sought) (room : spot .at < length stretch) (k : Seek s stretch (spot .at + 1) (length stretch) next) where
     pub slow-none : next .found ≡ false → Records (afterIn s stretch base (first .at)) 1 (record { count = count; marker = 0 }) list₀ list
     slow-none t = stopped (after-none s stretch base (spot .at) next room k t)
 
@@ -130,27 +131,14 @@ pub records-long : {r : Record} {before : ℕ} {after : Recorded} {list₀ list 
 records-long {r} {before} {list₀ = list₀} w = ap length (w .kept) ∙ length-sets list₀ before (r .offsets)
 
 -- the first mark of a stretch past its lead-in
-module _ (s : Settings) (stretch : List ℕ) (base : ℕ) (long : 48 ≤ length stretch) (first : Sought) (k : Seek s stretch 48 first) (list : List ℕ) where
-  first-clear : Unmarked (markFrom s stretch base) (suc (base + 47)) (base + first .at)
-  unfolding markFrom
-  first-clear q lo hi = k .clear (q - base) (omega arith) (omega arith)
-
-  first-told : markFrom s stretch base (base + first .at) ≡ first .found
-  unfolding markFrom
-  first-told = let same : base + first .at - base ≡ first .at = omega arith in ap (mark s stretch) same ∙ k .told
-
+module _ (s : Settings) (stretch : List ℕ) (base : ℕ) (long : 48 ≤ length stretch) (first : Sought) (k : Seek s stretch 48 (length stretch) first) (list : List ℕ) where
   pub first-none : first .found ≡ false → Records (slowIn s stretch base) 0 (record { count = 0; marker = 0 }) list list
   unfolding slowIn slowRecord
-  first-none t =
-      let ends : first .at ≡ length stretch = k .ended t in
-      rw (marks-none (markFrom s stretch base) (base + length stretch) (base + 47) (omega arith)
-      (λ q lo hi. by-lt q (base + first .at) (first-clear q lo) (λ h. ap (markFrom s stretch base) (omega arith) ∙ first-told ∙ t)))
-      (record { counted = refl; marked = refl; kept = refl })
+  first-none t = rw (no-more-marks s stretch base 47 first long k t) (record { counted = refl; marked = refl; kept = refl })
 
   pub first-found : first .found ≡ true → {list′ list″ : List ℕ} → list′ ≡ set list 0 (base + first .at) → {r : Recorded}
       → Records (afterIn s stretch base (first .at)) 1 r list′ list″ → Records (slowIn s stretch base) 0 r list list″
   unfolding slowIn slowRecord afterIn prepend
   first-found t e {r} w =
-      rw (marks-next (markFrom s stretch base) (base + length stretch) (base + 47) (base + first .at) (omega (arith, k .begun)) (omega (arith, k .inside))
-      (first-told ∙ t) first-clear)
+      rw (then-marks s stretch base 47 first long k t)
       (record { counted = w .counted ∙ omega arith; marked = w .marked; kept = w .kept ∙ ap (λ (l : List ℕ). sets l 1 (afterIn s stretch base (first .at) .offsets)) e })

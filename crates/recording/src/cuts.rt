@@ -8,6 +8,8 @@ ghost use Rattle.terms.specs.Settings.{inRange};
 ghost use Rattle.rule.specs.Rule.{cutsUpTo};
 ghost use Rattle.puts.specs.Puts.{Puts};
 ghost use Rattle.recording.specs.Stretches.{markFrom, Hops};
+use super::search::seek;
+use bays::shapes::end_of;
 use puts::Made;
 use terms::Settings;
 
@@ -24,33 +26,21 @@ fn next_hop(
     requires { ⌜ (now leaving ≡ leavingTable) × (now pushed ≡ pushedTable) ⌝ }
     ensures { λ r. ⌜ Hops settings (now (stretch .entry)) cut r ⌝ }
 {
-    let last = stretch.len();
-    if cut == last {
-        return last + 1;
+    let maximum = settings.maximum;
+    let first = cut + settings.minimum as usize;
+    if first > stretch.len() {
+        return stretch.len() + 1;
     }
-    let next = cutting::search::next_cut(settings, stretch, cut, leaving, pushed);
-    if next < last {
-        return next;
+    let last = end_of(cut as u64, maximum, stretch.len() as u64) as usize;
+    let here = signature::of_window(stretch, first - 48, pushed);
+    let spot = seek(settings, stretch, first, last, here, leaving, pushed);
+    if spot.found {
+        return spot.at;
     }
-    let step = (last - cut) as u64;
-    if step == settings.maximum {
+    if (last - cut) as u64 == maximum {
         return last;
     }
-    if step < settings.minimum {
-        return last + 1;
-    }
-    let ended = super::search::seek(
-        settings,
-        stretch,
-        last,
-        signature::of_window(stretch, last - 48, pushed),
-        leaving,
-        pushed,
-    );
-    if ended.found {
-        return last;
-    }
-    last + 1
+    stretch.len() + 1
 }
 
 // The one-pass cuts of a stretch that follow a cut: what the record lists of them.

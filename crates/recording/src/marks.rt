@@ -8,7 +8,10 @@ ghost use Rattle.signature.specs.Signatures.{signatureOf, window, leavingTable,
 ghost use Rattle.terms.specs.Settings.{inRange};
 ghost use Rattle.recording.specs.Stretches.{afterIn, slowIn, Records};
 use super::Recorded;
+use super::cuts::record_cuts;
 use super::search::Sought;
+use super::search::next_mark;
+use super::search::seek;
 use puts::Made;
 use terms::Settings;
 
@@ -46,7 +49,7 @@ fn record_after(
     let mut spot = first;
     let mut count: u64 = 1;
     while spot.at < stretch.len() {
-        let next = super::search::next_mark(settings, stretch, spot, leaving, pushed);
+        let next = next_mark(settings, stretch, spot, leaving, pushed);
         if !next.found {
             return Recorded { count, marker: 0 };
         }
@@ -55,15 +58,7 @@ fn record_after(
         count += 1;
         if is_marker(minimum, maximum, (next.at - spot.at) as u64) {
             let made = Made { count, cut: offset };
-            let all = super::cuts::record_cuts(
-                settings,
-                stretch,
-                base,
-                made,
-                list,
-                leaving,
-                pushed,
-            );
+            let all = record_cuts(settings, stretch, base, made, list, leaving, pushed);
             return Recorded {
                 count: all.count,
                 marker: offset,
@@ -89,7 +84,8 @@ pub fn record_marks(
     ensures { λ r. ⌜ Records (slowIn settings (now (stretch .entry)) base) 0 r (now (list .entry)) (now (list .exit)) ⌝ }
 {
     let here = signature::of_window(stretch, 0, pushed);
-    let first = super::search::seek(settings, stretch, 48, here, leaving, pushed);
+    let last = stretch.len();
+    let first = seek(settings, stretch, 48, last, here, leaving, pushed);
     if !first.found {
         return Recorded {
             count: 0,

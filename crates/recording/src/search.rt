@@ -8,33 +8,34 @@ ghost use Rattle.terms.specs.Settings.{inRange};
 ghost use Rattle.recording.specs.Stretches.{Seek};
 use terms::Settings;
 
-// Where a search stops: at a mark that it found, or at the stretch's end; and the signature there.
+// Where a search stops: at a mark that it found, or at its end; and the signature there.
 pub struct Sought {
     pub at: usize,
     pub signature: u32,
     pub found: bool,
 }
 
-// The first mark of a stretch from an offset on, whose signature is at hand.
+// The first mark of a stretch from one offset, whose signature is at hand, to another.
 pub fn seek(
     settings: Settings,
     stretch: &[u8],
     first: usize,
+    last: usize,
     signature: u32,
     leaving: &[u32; 256],
     pushed: &[u32; 256],
 ) -> Sought
     requires { ⌜ inRange settings ≡ true ⌝ }
-    requires { ⌜ (48 ≤ first) × (first ≤ length (now stretch)) × (signature ≡ signatureOf (window (now stretch) (first - 48))) ⌝ }
+    requires { ⌜ (48 ≤ first) × (first ≤ last) × (last ≤ length (now stretch)) × (signature ≡ signatureOf (window (now stretch) (first - 48))) ⌝ }
     requires { ⌜ (now leaving ≡ leavingTable) × (now pushed ≡ pushedTable) ⌝ }
-    ensures { λ r. ⌜ Seek settings (now (stretch .entry)) first r ⌝ }
+    ensures { λ r. ⌜ Seek settings (now (stretch .entry)) first last r ⌝ }
 {
     let mask: u32 = (1 << settings.bits) - 1;
     let target = settings.target;
     let mut at = first;
     let mut here = signature;
     while here & mask != target {
-        if at == stretch.len() {
+        if at == last {
             return Sought {
                 at,
                 signature: here,
@@ -62,7 +63,7 @@ pub fn next_mark(
     requires { ⌜ inRange settings ≡ true ⌝ }
     requires { ⌜ (48 ≤ spot .at) × (spot .at < length (now stretch)) × (spot .signature ≡ signatureOf (window (now stretch) (spot .at - 48))) ⌝ }
     requires { ⌜ (now leaving ≡ leavingTable) × (now pushed ≡ pushedTable) ⌝ }
-    ensures { λ r. ⌜ Seek settings (now (stretch .entry)) (spot .at + 1) r ⌝ }
+    ensures { λ r. ⌜ Seek settings (now (stretch .entry)) (spot .at + 1) (length (now (stretch .entry))) r ⌝ }
 {
     let at = spot.at;
     let here = signature::roll(
@@ -72,5 +73,13 @@ pub fn next_mark(
         leaving,
         pushed,
     );
-    seek(settings, stretch, at + 1, here, leaving, pushed)
+    seek(
+        settings,
+        stretch,
+        at + 1,
+        stretch.len(),
+        here,
+        leaving,
+        pushed,
+    )
 }

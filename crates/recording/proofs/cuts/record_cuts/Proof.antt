@@ -31,22 +31,22 @@ put-requires : tie.Need-put-requires Inv-loop μ-loop
 put-requires c κs = search needs
 
 add-count : tie.Need-add-count Inv-loop μ-loop
-add-count c = omega (arith, c .before .before .before .before .before .loop .inv .way .behind, c .before .before .before .before .before .before .before .before .before .pre .1 .0 .3, c .before .before .before .before .loop-test .taken, rises-past _ _ _ (omega (arith, ranges (c .before .before .before .before .before .before .before .before .before .args .settings) (c .before .before .before .before .before .before .before .before .before .pre .0) .window-fits)) (ranges (c .before .before .before .before .before .before .before .before .before .args .settings) (c .before .before .before .before .before .before .before .before .before .pre .0) .ordered) _ _ (c .before .before .before .before .before .loop .inv .from) (c .before .before .before .before .before .loop .inv .ahead) (c .before .before .before .before .loop-test .taken))
+add-count c = omega (arith, c .before .before .before .before .before .loop .inv .way .behind, c .before .before .before .before .before .before .before .before .before .pre .1 .0 .3, c .before .before .before .before .loop-test .taken, rises-past _ _ _ (ranges _ (c .before .before .before .before .before .before .before .before .before .pre .0)) _ _ (c .before .before .before .before .before .loop .inv .from) (c .before .before .before .before .before .loop .inv .ahead) (c .before .before .before .before .loop-test .taken))
 
 next-hop-requires-2 : tie.Need-next-hop-requires-2 Inv-loop μ-loop
 next-hop-requires-2 c κs = (c .before .before .before .before .before .before .before .before .before .pre .0, ((c .before .before .before .before .loop-test .taken, omega (arith, c .before .before .before .before .before .before .before .before .before .pre .1 .0 .3)), c .before .before .before .before .before .before .before .before .before .pre .1 .1))
 
 loop-less : tie.Need-loop-less Inv-loop μ-loop
-loop-less c = omega (arith, c .before .before .before .before .before .loop-test .taken, hop-later _ _ _ _ (omega (arith, ranges (c .before .before .before .before .before .before .before .before .before .before .args .settings) (c .before .before .before .before .before .before .before .before .before .before .pre .0) .window-fits)) (ranges (c .before .before .before .before .before .before .before .before .before .before .args .settings) (c .before .before .before .before .before .before .before .before .before .before .pre .0) .ordered) (c .before .before .before .before .before .loop-test .taken) (c .next-hop2 .ensures))
+loop-less c = omega (arith, c .before .before .before .before .before .loop-test .taken, hop-later _ _ _ _ (ranges _ (c .before .before .before .before .before .before .before .before .before .before .pre .0)) (c .before .before .before .before .before .loop-test .taken) (c .next-hop2 .ensures))
 
 loop-again : tie.Need-loop-again Inv-loop μ-loop
-loop-again c = cut-on _ _ _ (omega (arith, ranges (c .before .before .before .before .before .before .before .before .before .before .args .settings) (c .before .before .before .before .before .before .before .before .before .before .pre .0) .window-fits)) (ranges (c .before .before .before .before .before .before .before .before .before .before .args .settings) (c .before .before .before .before .before .before .before .before .before .before .pre .0) .ordered) (c .before .before .before .before .before .before .loop .inv) (c .before .before .before .before .before .loop-test .taken) (c .before .before .before .put .ensures) _ (c .next-hop2 .ensures)
+loop-again c = cut-on _ _ _ (ranges _ (c .before .before .before .before .before .before .before .before .before .before .pre .0)) (c .before .before .before .before .before .before .loop .inv) (c .before .before .before .before .before .loop-test .taken) (c .before .before .before .put .ensures) _ (c .next-hop2 .ensures)
 
 same-length : tie.Need-same-length Inv-loop μ-loop
 same-length c = same-long (c .before .loop .inv .way)
 
 returns : tie.Need-returns Inv-loop μ-loop
-returns c = cuts-done _ _ _ (omega (arith, ranges (c .before .before .before .before .before .args .settings) (c .before .before .before .before .before .pre .0) .window-fits)) (ranges (c .before .before .before .before .before .args .settings) (c .before .before .before .before .before .pre .0) .ordered) (c .before .loop .inv) (c .loop-test .left)
+returns c = cuts-done _ _ _ (ranges _ (c .before .before .before .before .before .pre .0)) (c .before .loop .inv) (c .loop-test .left)
 
 pub record-cuts-spec : {M : Type 1} → statement M
 record-cuts-spec =

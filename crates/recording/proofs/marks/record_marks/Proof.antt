@@ -10,7 +10,7 @@ of-window-requires : tie.Need-of-window-requires
 of-window-requires c κs = (omega (arith, c .before .before .pre .1 .0 .0), c .before .before .pre .1 .1 .1)
 
 seek-requires : tie.Need-seek-requires
-seek-requires c κs = (c .before .before .before .pre .0, ((omega arith, c .before .before .before .pre .1 .0 .0, c .of-window .ensures), c .before .before .before .pre .1 .1))
+seek-requires c κs = (c .before .before .before .pre .0, ((omega arith, c .before .before .before .pre .1 .0 .0, omega arith, c .of-window .ensures), c .before .before .before .pre .1 .1))
 
 returns : tie.Need-returns
 returns c = first-none _ _ _ (c .before .before .before .before .before .before .pre .1 .0 .0) _ (c .before .before .seek .ensures) _ (not-true _ (c .if1 .taken))

@@ -22,7 +22,7 @@ add-seek : tie.Need-add-seek
 add-seek c = search needs
 
 seek-requires : tie.Need-seek-requires
-seek-requires c κs = (c .before .before .before .before .pre .0, ((omega (arith, c .before .before .before .before .pre .1 .0), omega (arith, c .before .before .before .before .pre .1 .0), rolled-on _ (λ j. c .before .shared-slice-known3 .given j .fits) _ (c .before .before .before .before .pre .1 .0 .0) (c .before .before .before .before .pre .1 .0 .1) _ _ (c .before .before .before .before .pre .1 .0 .2) (c .roll .ensures)), c .before .before .before .before .pre .1 .1))
+seek-requires c κs = (c .before .before .before .before .pre .0, ((omega (arith, c .before .before .before .before .pre .1 .0), omega (arith, c .before .before .before .before .pre .1 .0), omega arith, rolled-on _ (λ j. c .before .shared-slice-known3 .given j .fits) _ (c .before .before .before .before .pre .1 .0 .0) (c .before .before .before .before .pre .1 .0 .1) _ _ (c .before .before .before .before .pre .1 .0 .2) (c .roll .ensures)), c .before .before .before .before .pre .1 .1))
 
 returns : tie.Need-returns
 returns c = search needs
