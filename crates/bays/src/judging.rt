@@ -1,7 +1,7 @@
 // Whether a bay is done and not malformed.
 ghost use mathlib.Core.Path.{_≡_};
-ghost use mathlib.Core.Bool.{true, false};
-ghost use Prim.Native.Nat.{_+_, _*_, _≤_, _<_, _^_};
+ghost use mathlib.Core.Bool.{true};
+ghost use Prim.Native.Nat.{_≤_, _^_};
 ghost use lib.ListN.{length};
 ghost use Rattle.bays.specs.Segments.{segments, boardFits, There};
 ghost use Rattle.bays.specs.Bays.{risesWithin, stepsWithin, fromMarker, markerFits, isSound, isDone};

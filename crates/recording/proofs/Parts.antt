@@ -4,9 +4,9 @@ use mathlib.Core.Path.{_≡_, refl, sym, ap, _∙_, subst}
 use mathlib.Core.List.{List}
 use native.Mathlib.Nat.{mul-le-mul-right, one-mul}
 use native.Mathlib.Omega.{arith}
-use lib.ListN.{length, getD, take, drop, length-take, length-drop}
-use lib.Seq.{ext-getD, getD-take, getD-drop}
+use lib.ListN.{length, take, drop, length-take, length-drop}
 use Rattle.laws.proofs.Cases.{by-lt}
+use Rattle.laws.proofs.Lent.{part-of-part}
 use Rattle.terms.specs.declared.Settings.{Settings}
 use Rattle.terms.proofs.Ranges.{Ranges}
 use Rattle.rule.specs.Rule.{cutsUpTo}
@@ -24,19 +24,6 @@ use Rattle.bays.proofs.Ranges.{begins-below}
 use Rattle.rule.proofs.Leaps.{cuts-alike}
 use Rattle.recording.proofs.Alike.{slow-alike}
 
-window-part : (log : List ℕ) (base j n : ℕ) → j + 48 ≤ n → base + n ≤ length log → window (take n (drop base log)) j ≡ window log (base + j)
-window-part log base j n h fits =
-    let whole : length (take 48 (drop j (take n (drop base log)))) ≡ 48 = rw (length-take, length-drop, length-take, length-drop) (omega arith) in
-    let whole′ : length (take 48 (drop (base + j) log)) ≡ 48 = rw (length-take, length-drop) (omega arith) in
-    ext-getD 0 _ _ (whole ∙ sym whole′)
-    (λ p k. getD-take 48 (drop j (take n (drop base log))) p 0 (omega arith)
-    ∙ getD-drop j (take n (drop base log)) p 0
-    ∙ getD-take n (drop base log) (j + p) 0 (omega arith)
-    ∙ getD-drop base log (j + p) 0
-    ∙ sym (getD-take 48 (drop (base + j) log) p 0 (omega arith)
-    ∙ getD-drop (base + j) log p 0
-    ∙ ap (λ (x : ℕ). getD log x 0) (omega arith)))
-
 module _ (s : Settings) (log : List ℕ) (base last : ℕ) (begins : base ≤ last) (fits : last ≤ length log) where
   pub stretch-long : length (take (last - base) (drop base log)) ≡ last - base
   stretch-long = rw (length-take, length-drop) (omega arith)
@@ -47,7 +34,7 @@ module _ (s : Settings) (log : List ℕ) (base last : ℕ) (begins : base ≤ la
       let long = stretch-long in
       let spot : base + (q - base - 48) ≡ q - 48 = omega arith in
       marks-agree s (take (last - base) (drop base log)) log (q - base) q (omega arith) (omega arith) (omega arith) (omega arith)
-      (window-part log base (q - base - 48) (last - base) (omega arith) (omega arith) ∙ ap (window log) spot)
+      (part-of-part log base (last - base) (q - base - 48) 48 (omega arith) (omega arith) ∙ ap (window log) spot)
 
   first-mark : base ≡ 0 → (q : ℕ) → 0 < q → q ≤ last → markFrom s (take (last - base) (drop base log)) base q ≡ mark s log q
   unfolding markFrom

@@ -1,10 +1,9 @@
 -- Slow mode in a stretch, mark by mark.
 use Prim.Native.Nat.{ℕ, suc, _+_, _-_, _≤_, _<_}
 use mathlib.Core.Path.{_≡_, refl, sym, ap, _∙_}
-use mathlib.Core.Bool.{true, false, _&&_}
+use mathlib.Core.Bool.{true, false}
 use mathlib.Core.List.{List, [], _∷_}
 use native.Mathlib.Omega.{arith}
-use lib.Dec.{leb}
 use lib.ListN.{length, set}
 use lib.Seq.{sets, length-sets}
 use Rattle.laws.proofs.Cases.{by-lt}
@@ -58,21 +57,16 @@ module _ (s : Settings) (stretch : List ℕ) (base at : ℕ) where
     after-none t = rw (no-more-marks s stretch base at next inside k t)
 
     module _ (t : next .found ≡ true) where
-      step-is : isMarker (s .minimum) (s .maximum) (base + at) (base + next .at)
-          ≡ leb (s .minimum) (next .at - at) && leb (next .at - at) (s .maximum - s .minimum)
-      unfolding isMarker
-      step-is = let same : base + next .at - (base + at) ≡ next .at - at = omega arith in rw same
-
-      after-marker : leb (s .minimum) (next .at - at) && leb (next .at - at) (s .maximum - s .minimum) ≡ true
+      after-marker : isMarker (s .minimum) (s .maximum) (base + at) (base + next .at) ≡ true
           → afterIn s stretch base at
           ≡ record { marker = base + next .at; offsets = (base + next .at) ∷ cutsUpTo (markFrom s stretch base) (s .minimum) (s .maximum) (base + length stretch) (base + next .at) }
       unfolding afterIn
-      after-marker m = rw (then-marks s stretch base at next inside k t) (at-marker _ _ _ _ _ _ _ (step-is ∙ m))
+      after-marker m = rw (then-marks s stretch base at next inside k t) (at-marker _ _ _ _ _ _ _ m)
 
-      after-mark : leb (s .minimum) (next .at - at) && leb (next .at - at) (s .maximum - s .minimum) ≡ false
+      after-mark : isMarker (s .minimum) (s .maximum) (base + at) (base + next .at) ≡ false
           → afterIn s stretch base at ≡ prepend (base + next .at) (afterIn s stretch base (next .at))
       unfolding afterIn
-      after-mark m = rw (then-marks s stretch base at next inside k t) (no-marker _ _ _ _ _ _ _ (step-is ∙ m))
+      after-mark m = rw (then-marks s stretch base at next inside k t) (no-marker _ _ _ _ _ _ _ m)
 
 -- the marks up to `spot` are recorded, after the first
 pub record Slowly (s : Settings) (stretch : List ℕ) (base : ℕ) (first : Sought) (list₀ list : List ℕ) (spot : Sought) (count : ℕ) : Type 0 where
@@ -104,7 +98,7 @@ module _ {s : Settings} {stretch : List ℕ} {base : ℕ} {first : Sought} {list
     pub slow-none : next .found ≡ false → Records (afterIn s stretch base (first .at)) 1 (record { count = count; marker = 0 }) list₀ list
     slow-none t = stopped (after-none s stretch base (spot .at) next room k t)
 
-    pub slow-on : next .found ≡ true → leb (s .minimum) (next .at - spot .at) && leb (next .at - spot .at) (s .maximum - s .minimum) ≡ false
+    pub slow-on : next .found ≡ true → isMarker (s .minimum) (s .maximum) (base + spot .at) (base + next .at) ≡ false
         → {list′ : List ℕ} → list′ ≡ set list count (base + next .at) → Slowly s stretch base first list₀ list′ next (count + 1)
     unfolding prepend
     slow-on t m e =
@@ -117,7 +111,7 @@ module _ {s : Settings} {stretch : List ℕ} {base : ℕ} {first : Sought} {list
           way = one-more (base + next .at) (rest-is _ (ap (λ (r : Record). r .offsets) after) (w .way)) (omega (arith, k .begun)) e;
         }
 
-    pub slow-marker : next .found ≡ true → leb (s .minimum) (next .at - spot .at) && leb (next .at - spot .at) (s .maximum - s .minimum) ≡ true
+    pub slow-marker : next .found ≡ true → isMarker (s .minimum) (s .maximum) (base + spot .at) (base + next .at) ≡ true
         → {list′ list″ : List ℕ} → list′ ≡ set list count (base + next .at) → {all : Made}
         → Puts (cutsUpTo (markFrom s stretch base) (s .minimum) (s .maximum) (base + length stretch) (base + next .at)) (record { count = count + 1; cut = base + next .at }) all list′ list″
         → Records (afterIn s stretch base (first .at)) 1 (record { count = all .count; marker = base + next .at }) list₀ list″

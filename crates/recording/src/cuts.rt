@@ -1,7 +1,7 @@
 // The one-pass cuts of a stretch, whatever follows it.
 ghost use mathlib.Core.Path.{_≡_};
 ghost use mathlib.Core.Bool.{true};
-ghost use Prim.Native.Nat.{_+_, _-_, _≤_, _<_, _^_};
+ghost use Prim.Native.Nat.{_+_, _≤_, _^_};
 ghost use lib.ListN.{length};
 ghost use Rattle.signature.specs.Signatures.{leavingTable, pushedTable};
 ghost use Rattle.terms.specs.Settings.{inRange};

@@ -1,11 +1,11 @@
 // Slow mode: all marks of a stretch until the marker, and then the cuts.
 ghost use mathlib.Core.Path.{_≡_};
-ghost use mathlib.Core.Bool.{true, _&&_};
-ghost use lib.Dec.{leb};
-ghost use Prim.Native.Nat.{_+_, _-_, _≤_, _<_, _^_};
+ghost use mathlib.Core.Bool.{true};
+ghost use Prim.Native.Nat.{_+_, _-_, _≤_, _^_};
 ghost use lib.ListN.{length};
 ghost use Rattle.signature.specs.Signatures.{signatureOf, window, leavingTable, pushedTable};
 ghost use Rattle.terms.specs.Settings.{inRange};
+ghost use Rattle.recording.specs.Records.{isMarker};
 ghost use Rattle.recording.specs.Stretches.{afterIn, slowIn, Records};
 use super::Recorded;
 use super::cuts::record_cuts;
@@ -15,11 +15,12 @@ use super::search::seek;
 use puts::Made;
 use terms::Settings;
 
-// Whether two neighbour marks so far apart make the later one the marker.
-fn is_marker(minimum: u64, maximum: u64, step: u64) -> bool
-    requires { ⌜ minimum ≤ maximum ⌝ }
-    ensures { λ r. ⌜ r ≡ leb minimum step && leb step (maximum - minimum) ⌝ }
+// Whether a mark is the marker, after its neighbour before it.
+fn is_marker(minimum: u64, maximum: u64, before: u64, mark: u64) -> bool
+    requires { ⌜ (minimum ≤ maximum) × (before ≤ mark) ⌝ }
+    ensures { λ r. ⌜ r ≡ isMarker minimum maximum before mark ⌝ }
 {
+    let step = mark - before;
     if step < minimum {
         return false;
     }
@@ -56,7 +57,7 @@ fn record_after(
         let offset = base + next.at as u64;
         puts::put(list, count, offset);
         count += 1;
-        if is_marker(minimum, maximum, (next.at - spot.at) as u64) {
+        if is_marker(minimum, maximum, base + spot.at as u64, offset) {
             let made = Made { count, cut: offset };
             let all = record_cuts(settings, stretch, base, made, list, leaving, pushed);
             return Recorded {

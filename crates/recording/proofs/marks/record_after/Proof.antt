@@ -38,26 +38,26 @@ put-requires c κs = search needs
 add-count : tie.Need-add-count Inv-loop μ-loop
 add-count c = omega (arith, c .before .before .before .before .before .before .before .before .before .loop .inv .way .behind, c .before .before .before .before .before .before .before .before .before .loop .inv .inside, c .before .before .before .before .before .before .before .before .before .before .before .before .pre .1 .0 .3)
 
-sub-is-marker : tie.Need-sub-is-marker Inv-loop μ-loop
-sub-is-marker c = omega (arith, c .before .before .before .before .before .before .before .before .next-mark .ensures .begun)
+add-is-marker : tie.Need-add-is-marker Inv-loop μ-loop
+add-is-marker c = omega (arith, c .before .before .before .before .before .before .before .before .before .loop .inv .inside, c .before .before .before .before .before .before .before .before .before .before .before .before .pre .1 .0 .3)
 
 is-marker-requires : tie.Need-is-marker-requires Inv-loop μ-loop
-is-marker-requires c κs = ranges _ (c .before .before .before .before .before .before .before .before .before .before .before .before .before .before .pre .0) .ordered
+is-marker-requires c κs = (ranges _ (c .before .before .before .before .before .before .before .before .before .before .before .before .pre .0) .ordered, omega (arith, c .before .before .before .before .before .before .next-mark .ensures .begun))
 
 record-cuts-requires : tie.Need-record-cuts-requires Inv-loop μ-loop
-record-cuts-requires c κs = (c .before .before .before .before .before .before .before .before .before .before .before .before .before .before .before .before .before .pre .0, ((omega (arith, c .before .before .before .before .before .before .before .before .before .before .before .before .before .before .loop .inv .way .behind, c .before .before .before .before .before .before .before .before .before .before .before .next-mark .ensures .begun), omega arith, omega (arith, c .before .before .before .before .before .before .before .before .before .before .before .next-mark .ensures .inside), c .before .before .before .before .before .before .before .before .before .before .before .before .before .before .before .before .before .pre .1 .0 .3), c .before .before .before .before .before .before .before .before .before .before .before .before .before .before .before .before .before .pre .1 .1))
+record-cuts-requires c κs = (c .before .before .before .before .before .before .before .before .before .before .before .before .before .before .before .pre .0, ((omega (arith, c .before .before .before .before .before .before .before .before .before .before .before .before .loop .inv .way .behind, c .before .before .before .before .before .before .before .before .before .next-mark .ensures .begun), omega arith, omega (arith, c .before .before .before .before .before .before .before .before .before .next-mark .ensures .inside), c .before .before .before .before .before .before .before .before .before .before .before .before .before .before .before .pre .1 .0 .3), c .before .before .before .before .before .before .before .before .before .before .before .before .before .before .before .pre .1 .1))
 
 same-length-2 : tie.Need-same-length-2 Inv-loop μ-loop
-same-length-2 c = records-long (slow-marker (c .before .before .before .before .before .before .before .before .before .before .before .before .before .before .before .before .before .loop .inv) _ (c .before .before .before .before .before .before .before .before .before .before .before .before .before .before .before .if1 .taken) (c .before .before .before .before .before .before .before .before .before .before .before .before .before .before .next-mark .ensures) (not-false _ (c .before .before .before .before .before .before .before .before .before .before .before .before .if2 .left)) (sym (c .before .before .before .before .before .is-marker .ensures) ∙ c .before .before .before .before .if3 .taken) (c .before .before .before .before .before .before .before .before .before .before .put .ensures) (c .before .before .record-cuts .ensures))
+same-length-2 c = records-long (slow-marker (c .before .before .before .before .before .before .before .before .before .before .before .before .before .before .before .loop .inv) _ (c .before .before .before .before .before .before .before .before .before .before .before .before .before .if1 .taken) (c .before .before .before .before .before .before .before .before .before .before .before .before .next-mark .ensures) (not-false _ (c .before .before .before .before .before .before .before .before .before .before .if2 .left)) (sym (c .before .before .before .before .before .is-marker .ensures) ∙ c .before .before .before .before .if3 .taken) (c .before .before .before .before .before .before .before .before .put .ensures) (c .before .before .record-cuts .ensures))
 
 returns-2 : tie.Need-returns-2 Inv-loop μ-loop
-returns-2 c = slow-marker (c .before .before .before .before .before .before .before .before .before .before .before .before .before .before .before .before .before .loop .inv) _ (c .before .before .before .before .before .before .before .before .before .before .before .before .before .before .before .if1 .taken) (c .before .before .before .before .before .before .before .before .before .before .before .before .before .before .next-mark .ensures) (not-false _ (c .before .before .before .before .before .before .before .before .before .before .before .before .if2 .left)) (sym (c .before .before .before .before .before .is-marker .ensures) ∙ c .before .before .before .before .if3 .taken) (c .before .before .before .before .before .before .before .before .before .before .put .ensures) (c .before .before .record-cuts .ensures)
+returns-2 c = slow-marker (c .before .before .before .before .before .before .before .before .before .before .before .before .before .before .before .loop .inv) _ (c .before .before .before .before .before .before .before .before .before .before .before .before .before .if1 .taken) (c .before .before .before .before .before .before .before .before .before .before .before .before .next-mark .ensures) (not-false _ (c .before .before .before .before .before .before .before .before .before .before .if2 .left)) (sym (c .before .before .before .before .before .is-marker .ensures) ∙ c .before .before .before .before .if3 .taken) (c .before .before .before .before .before .before .before .before .put .ensures) (c .before .before .record-cuts .ensures)
 
 loop-less : tie.Need-loop-less Inv-loop μ-loop
-loop-less c = omega (arith, c .before .before .before .before .before .before .before .before .before .before .next-mark .ensures .begun, c .before .before .before .before .before .before .before .before .before .before .before .if1 .taken)
+loop-less c = omega (arith, c .before .before .before .before .before .before .before .before .next-mark .ensures .begun, c .before .before .before .before .before .before .before .before .before .if1 .taken)
 
 loop-again : tie.Need-loop-again Inv-loop μ-loop
-loop-again c = slow-on (c .before .before .before .before .before .before .before .before .before .before .before .before .before .loop .inv) _ (c .before .before .before .before .before .before .before .before .before .before .before .if1 .taken) (c .before .before .before .before .before .before .before .before .before .before .next-mark .ensures) (not-false _ (c .before .before .before .before .before .before .before .before .if2 .left)) (sym (c .before .is-marker .ensures) ∙ c .if3 .left) (c .before .before .before .before .before .before .put .ensures)
+loop-again c = slow-on (c .before .before .before .before .before .before .before .before .before .before .before .loop .inv) _ (c .before .before .before .before .before .before .before .before .before .if1 .taken) (c .before .before .before .before .before .before .before .before .next-mark .ensures) (not-false _ (c .before .before .before .before .before .before .if2 .left)) (sym (c .before .is-marker .ensures) ∙ c .if3 .left) (c .before .before .before .before .put .ensures)
 
 same-length-3 : tie.Need-same-length-3 Inv-loop μ-loop
 same-length-3 c = same-long (c .before .before .loop .inv .way)
@@ -78,7 +78,7 @@ record-after-spec =
     add-offset
     put-requires
     add-count
-    sub-is-marker
+    add-is-marker
     is-marker-requires
     record-cuts-requires
     same-length-2
