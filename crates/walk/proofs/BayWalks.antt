@@ -22,7 +22,7 @@ use Rattle.bays.proofs.Ranges.{length-bay, reach, from-reach, to-reach, spans}
 use Rattle.walk.proofs.Rises.{rises-wider}
 use Rattle.bays.proofs.Verdicts.{Judged, each-granted}
 use Rattle.puts.proofs.Putting.{puts-are, Underway, begin, more, one-more, ended, rest-is, all-made}
-use Rattle.laws.proofs.Sets.{sets-over}
+use Rattle.laws.proofs.Sets.{sets-written}
 use Rattle.walk.proofs.Lasts.{bay-last}
 
 -- segment 0, and any other
@@ -145,4 +145,4 @@ module _ (s : Settings) (n size width : ℕ) (board : List ℕ) {made after : Ma
 
   pub walk-written : list′ ≡ writtenList (boardWalk s n size width board) list₀
   unfolding writtenList
-  walk-written = walked .kept ∙ sets-over list₀ (boardWalk s n size width board)
+  walk-written = walked .kept ∙ sets-written list₀ (boardWalk s n size width board)
