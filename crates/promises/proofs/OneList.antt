@@ -19,9 +19,6 @@ use Rattle.signature.proofs.Remainders.{rem-exactly}
 use Rattle.cutting.specs.Marks.{mark, matches, cutList}
 use Rattle.pass.specs.SinglePass.{Lent, joined, Roomy, writtenBy}
 use Rattle.pass.proofs.SinglePass as pass
-use Rattle.board.proofs.Merged as merging
-use Rattle.board.proofs.Accepted as accepted
-use Rattle.board.proofs.Orders as orders
 use Rattle.promises.specs.OneList.{Marked, Lists}
 use Rattle.terms.proofs.Rows.{past-row}
 use Rattle.promises.proofs.Unless.{wrote-all}

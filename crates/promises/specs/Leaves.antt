@@ -5,6 +5,7 @@ use mathlib.Core.List.{List, _∷_}
 use lib.ListN.{length, take}
 use Rattle.laws.specs.Over.{over}
 use Rattle.terms.specs.Answers.{answerNumber}
+use Rattle.bays.specs.Bays.{bayOf}
 use Rattle.carry.specs.declared.Carry.{Carry}
 use Rattle.carry.specs.declared.Outcome.{Outcome}
 
@@ -21,3 +22,10 @@ pub record HandsBack (c : Carry) (outcome : Outcome) : Type 0 where
 pub record BayLeaves (number : ℕ) (offsets before after : List ℕ) : Type 0 where
   pub untouched : (number ≡ 0 → ⊥) → (number ≡ 6 → ⊥) → after ≡ before
   pub too-long : number ≡ 6 → after ≡ 0 ∷ 0 ∷ take (length before - 2) offsets
+
+-- what recording leaves in a board of bays of so many numbers: 6 leaves its own bay as in a bay lent alone, every other refusal leaves the board as it was,
+-- and every other bay stays as it was, on success too
+pub record BoardLeaves (number width i : ℕ) (offsets before after : List ℕ) : Type 0 where
+  pub untouched : (number ≡ 0 → ⊥) → (number ≡ 6 → ⊥) → after ≡ before
+  pub too-long : number ≡ 6 → bayOf width after i ≡ 0 ∷ 0 ∷ take (width - 2) offsets
+  pub others-stay : (j : ℕ) → (i ≡ j → ⊥) → bayOf width after j ≡ bayOf width before j
