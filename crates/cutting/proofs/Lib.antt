@@ -1,3 +1,4 @@
 pub mod Marked
 pub mod Searching
 pub mod Filling
+pub mod Reaching

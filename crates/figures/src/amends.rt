@@ -5,6 +5,7 @@ ghost use lib.ListN.{length};
 use super::show;
 use amending::Amendment;
 use amending::amend;
+use amending::edits::Edit;
 use terms::Settings;
 
 fn settings() -> Settings {
@@ -47,7 +48,17 @@ fn edit(
     if length <= bytes.len() {
         counts(
             what,
-            amend(settings(), old, s, d, e, &bytes[..length], list),
+            amend(
+                settings(),
+                old,
+                Edit {
+                    at: s,
+                    removed: d,
+                    added: e,
+                },
+                &bytes[..length],
+                list,
+            ),
         );
         show::entries(list);
     }

@@ -1,4 +1,6 @@
 pub mod Bytes
 pub mod Cases
+pub mod Sets
+pub mod Slices
 pub mod Tables
 pub mod Writing
