@@ -11,5 +11,7 @@ pub mod Amended
 pub mod ByMarks
 pub mod Chained
 pub mod Stretch
-pub mod OverBytes
+pub mod Afresh
+pub mod StretchOnly
+pub mod AnyList
 pub mod Figures

@@ -8,15 +8,12 @@ use lib.Dec.{leb, eqb}
 use lib.ListN.{length, getD, drop, length-append, length-drop}
 use lib.Seq.{drop-cons, getD-drop}
 use borrow.Author.Tests.{le-leb, lt-leb, leb-true, leb-false, eqb-true, eqb-false, eq-eqb, ne-eqb}
-use Rattle.laws.proofs.Cases.{by-lt, by-test}
+use Rattle.laws.proofs.Cases.{by-lt, by-test, clash}
 use Rattle.lists.specs.WellFormed.{isEmpty}
 use Rattle.amending.specs.declared.edits.Edit.{Edit}
 use Rattle.amending.specs.Parts.{before, since, wasAt, meets}
 use Rattle.amending.specs.Inner.{Ascends, Looked}
 use Rattle.amending.proofs.Split.{Split, here, split, joined, left-over, heads, since-is, since-later, since-none}
-
-never : false ≡ true → ⊥
-never is = let z : _≡_ {A = ℕ} 0 1 = cc in omega arith
 
 not-there : (edit : Edit) (t x : ℕ) → (x + edit .added ≡ t + edit .removed → ⊥) → wasAt edit t x ≡ false
 unfolding wasAt
@@ -34,7 +31,7 @@ ascends-after k l rises i j h fits =
 pub look-early : (edit : Edit) (t : ℕ) (left : List ℕ) → t < edit .at + edit .added → Looked edit t left 0 false
 unfolding meets
 look-early edit t left early =
-    record { within = omega arith; told = rw (lt-leb _ t early); onward = λ is. absurd (never is); behind = λ t′ h. refl }
+    record { within = omega arith; told = rw (lt-leb _ t early); onward = λ is. absurd (clash (sym is)); behind = λ t′ h. refl }
 
 -- past it, t has a place in the old log
 pub place-of : (edit : Edit) (t : ℕ) → edit .at + edit .added ≤ t → t - edit .added + edit .removed + edit .added ≡ t + edit .removed
@@ -53,7 +50,7 @@ module _ (edit : Edit) (t p : ℕ) (far : edit .at + edit .added ≤ t) (place :
       ∙ ap (since (wasAt edit t′)) (sym remains)
 
   looked : (met : Bool) → met ≡ meets edit left t → (met ≡ true → drop r left ≡ since (wasAt edit t) left) → Looked edit t left r met
-  looked met told onward = record { within = omega (arith, length-append (before (leb p) left) (since (leb p) left), ap length (joined (split (leb p) left))); told = told; onward = onward; behind = λ t′ h. skipped t′ (omega arith) ∙ refl }
+  looked met told onward = record { within = omega (arith, length-append (before (leb p) left) (since (leb p) left), ap length (joined (split (leb p) left))); told = told; onward = onward; behind = λ t′ h. skipped t′ (omega arith) }
 
   meets-by : {k : List ℕ} → since (wasAt edit t) left ≡ k → not (isEmpty k) ≡ meets edit left t
   unfolding meets
@@ -65,7 +62,7 @@ module _ (edit : Edit) (t p : ℕ) (far : edit .at + edit .added ≤ t) (place :
   unmet other =
       looked false
       (meets-by (skipped t (omega arith) ∙ since-none (wasAt edit t) (drop r left) (λ i h. not-there edit t (getD (drop r left) i 0) (λ is. other i h (omega arith)))))
-      (λ is. absurd (never is))
+      (λ is. absurd (clash (sym is)))
 
   pub look-end : length left ≤ r → Looked edit t left r false
   look-end h = unmet (λ i below. absurd (omega (arith, length-drop r left)))

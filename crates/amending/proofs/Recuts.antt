@@ -99,7 +99,7 @@ module _ {next : ℕ → ℕ} {n : ℕ} {edit : Edit} {past : List ℕ} {kept : 
         (ap (backFrom edit past) (ap (since (meets edit past)) ahead ∙ since-is (meets edit past) (here hit)) ∙ ap (map (moved edit)) (sym left))
         (λ i h. by-lt 0 i
         (λ k. omega (arith, first, there .place, ascends-after (passed + more) past rises 0 i k h))
-        (λ k. let same : 0 ≡ i = omega arith in omega (arith, ap (λ j. getD (drop (passed + more) past) j 0) same ∙ refl, first, there .place)))
+        (λ k. let same : 0 ≡ i = omega arith in omega (arith, ap (λ j. getD (drop (passed + more) past) j 0) same, first, there .place)))
 
     pub recut-more : met ≡ false → Recuts next n edit past kept list₀ from (set list (kept + count) t) t (passed + more) (count + 1)
     recut-more no-met =

@@ -12,6 +12,10 @@ use Rattle.amending.specs.Parts.{before, since, wasAt, meets, moved, bac
 abbrev pub Ascends : List ℕ → Type 0
 Ascends l = (i j : ℕ) → i < j → j < length l → getD l i 0 < getD l j 0
 
+-- the edit that moves nothing
+abbrev pub noEdit : Edit
+noEdit = record { at = 0; removed = 0; added = 0 }
+
 -- each entry can be moved by e - d within 64 bits
 abbrev pub Movable : Edit → List ℕ → Type 0
 Movable edit l = (i : ℕ) → i < length l → (edit .removed ≤ getD l i 0 + edit .added) × (getD l i 0 + edit .added < 2 ^ 64)

@@ -47,10 +47,6 @@ meets edit past t = leb (edit .at + edit .added) t && not (isEmpty (since (wasAt
 unfoldable pub moved : Edit → ℕ → ℕ
 moved edit x = x + edit .added - edit .removed
 
--- the edit that moves nothing
-abbrev pub noEdit : Edit
-noEdit = record { at = 0; removed = 0; added = 0 }
-
 -- the first entry, or other where there is none
 unfoldable pub firstOr : (other : ℕ) → List ℕ → ℕ
 firstOr other [] = other

@@ -1,6 +1,6 @@
 // An edit of a log: at one place so many bytes were replaced by so many others. Document 01 calls the three numbers s, d and e.
 ghost use mathlib.Core.Path.{_≡_};
-ghost use Rattle.amending.specs.Parts.{noEdit};
+ghost use Rattle.amending.specs.Inner.{noEdit};
 ghost use Rattle.amending.specs.Answers.{editFits};
 
 pub struct Edit {

@@ -11,9 +11,9 @@ ghost use Rattle.amending.specs.Parts.{amendedList};
 ghost use Rattle.amending.specs.Answers.{newCutsOf, editFits, partsAnswer, amendAnswer, amendList};
 
 pub mod edits;
-pub mod meeting;
-pub mod parts;
-pub mod recutting;
+mod meeting;
+mod parts;
+mod recutting;
 
 use edits::Edit;
 use terms::Refusal;

@@ -41,7 +41,7 @@ pub fn recut(
         if found.met {
             return Recutting { count, passed };
         }
-        lists::put(list, kept + count, cut as u64);
+        puts::put(list, kept + count, cut as u64);
         count += 1;
     }
     Recutting {

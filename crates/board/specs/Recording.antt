@@ -1,6 +1,6 @@
 -- What recording a segment answers and writes, over any marks: document 01, "Segments and the board" and "Numbers answered".
 use Prim.Native.Nat.{ℕ, _+_, _-_, _*_}
-use mathlib.Core.Bool.{Bool, true, false}
+use mathlib.Core.Bool.{Bool}
 use mathlib.Core.List.{List, [], _∷_, _++_}
 use lib.Dec.{leb}
 use lib.ListN.{length, take, drop}
@@ -10,10 +10,10 @@ use Rattle.terms.specs.declared.Answer.{Answer}
 use Rattle.terms.specs.declared.Answer.the-variants.{Wrote, Refused}
 use Rattle.terms.specs.declared.Settings.{Settings}
 use Rattle.terms.specs.Answers.{unless}
-use Rattle.board.specs.Segments.{bayFits, segmentFits}
-use Rattle.board.specs.Records.{Record, entries, segmentRecord}
-use Rattle.board.specs.Bays.{bayOf}
-use Rattle.board.specs.Merging.{judged, ifGranted}
+use Rattle.bays.specs.Segments.{bayFits, segmentFits}
+use Rattle.bays.specs.Bays.{Record, entries, bayOf}
+use Rattle.bays.specs.Judging.{judged, ifGranted}
+use Rattle.recording.specs.Records.{segmentOf}
 
 -- the record is not longer than its bay
 unfoldable pub recordFits : Record → ℕ → Bool
@@ -32,23 +32,20 @@ unfoldable pub withBay : ℕ → ℕ → List ℕ → List ℕ → List ℕ
 withBay width i bay board = take (i * width) board ++ (bay ++ drop (i * width + width) board)
 
 module _ (mark : ℕ → Bool) (s : Settings) (n size i : ℕ) where
-  abbrev pub segmentOf : Record
-  segmentOf = segmentRecord mark (s .minimum) (s .maximum) size n i
-
   -- recording into a bay that is lent alone: rows 1, 2, 7 and 6
   unfoldable pub bayAnswer : ℕ → Answer
-  bayAnswer width = ifGranted (judged s n (bayFits size width n i)) Refused (recordAnswer segmentOf width)
+  bayAnswer width = ifGranted (judged s n (bayFits size width n i)) Refused (recordAnswer (segmentOf mark s n size i) width)
 
   unfoldable pub bayAfter : List ℕ → List ℕ
-  bayAfter bay = ifGranted (judged s n (bayFits size (length bay) n i)) (λ _. bay) (recorded segmentOf bay)
+  bayAfter bay = ifGranted (judged s n (bayFits size (length bay) n i)) (λ _. bay) (recorded (segmentOf mark s n size i) bay)
 
   -- recording into bay i of a whole board: the same rows, and every other bay stays as it was
   unfoldable pub segmentAnswer : ℕ → ℕ → Answer
-  segmentAnswer width numbers = ifGranted (judged s n (segmentFits size width n i numbers)) Refused (recordAnswer segmentOf width)
+  segmentAnswer width numbers = ifGranted (judged s n (segmentFits size width n i numbers)) Refused (recordAnswer (segmentOf mark s n size i) width)
 
   unfoldable pub segmentBoard : ℕ → List ℕ → List ℕ
   segmentBoard width board =
-      ifGranted (judged s n (segmentFits size width n i (length board))) (λ _. board) (withBay width i (recorded segmentOf (bayOf width board i)) board)
+      ifGranted (judged s n (segmentFits size width n i (length board))) (λ _. board) (withBay width i (recorded (segmentOf mark s n size i) (bayOf width board i)) board)
 
 -- segment calls, one after the other, over one board
 unfoldable pub recordAll : (ℕ → Bool) → Settings → ℕ → ℕ → ℕ → List ℕ → List ℕ → List ℕ

@@ -1,15 +1,3 @@
-// Segments, the board and merging.
-use terms::Refusal;
-
-pub mod judging;
+// The calls on a board: a segment recorded, and the bays merged.
 pub mod merging;
-pub mod recording;
 pub mod segment;
-pub mod shapes;
-pub mod walk;
-
-// What judging comes to, before anything is written.
-pub enum Verdict {
-    Granted,
-    Denied(Refusal),
-}

@@ -5,9 +5,10 @@ ghost use Prim.Native.Nat.{_≤_};
 ghost use lib.ListN.{length};
 ghost use Rattle.terms.specs.Settings.{inRange};
 ghost use Rattle.cutting.specs.Marks.{mark};
-ghost use Rattle.board.specs.Segments.{There};
-ghost use Rattle.board.specs.Recording.{segmentOf, recordAnswer, recorded, bayAnswer, bayAfter, segmentAnswer, segmentBoard};
-use super::Verdict;
+ghost use Rattle.bays.specs.Segments.{There};
+ghost use Rattle.recording.specs.Records.{segmentOf};
+ghost use Rattle.board.specs.Recording.{recordAnswer, recorded, bayAnswer, bayAfter, segmentAnswer, segmentBoard};
+use bays::Verdict;
 use terms::Answer;
 use terms::Refusal;
 use terms::Settings;
@@ -19,7 +20,7 @@ fn fill_bay(settings: Settings, log: &[u8], size: u64, i: u64, bay: &mut [u64]) 
     ensures { λ r. ⌜ now (bay .exit) ≡ recorded (segmentOf (mark settings (now (log .entry))) settings (length (now (log .entry))) size i) (now (bay .entry)) ⌝ }
 {
     let places = bay.len() as u64 - 2;
-    let recorded = super::recording::record_segment(settings, log, size, i, &mut bay[2..]);
+    let recorded = recording::record_segment(settings, log, size, i, &mut bay[2..]);
     if recorded.count > places {
         bay[0] = 0;
         bay[1] = 0;
@@ -36,8 +37,8 @@ pub fn record_bay(settings: Settings, log: &[u8], size: u64, i: u64, bay: &mut [
     ensures { λ r. ⌜ now (bay .exit) ≡ bayAfter (mark settings (now (log .entry))) settings (length (now (log .entry))) size i (now (bay .entry)) ⌝ }
 {
     let n = log.len() as u64;
-    let fits = super::shapes::bay_fits(size, bay.len() as u64, n, i);
-    match super::shapes::judge(settings, n, fits) {
+    let fits = bays::shapes::bay_fits(size, bay.len() as u64, n, i);
+    match bays::shapes::judge(settings, n, fits) {
         Verdict::Denied(why) => return Answer::Refused(why),
         Verdict::Granted => {}
     }
@@ -57,8 +58,8 @@ pub fn segment(
     ensures { λ r. ⌜ now (board .exit) ≡ segmentBoard (mark settings (now (log .entry))) settings (length (now (log .entry))) size i width (now (board .entry)) ⌝ }
 {
     let n = log.len() as u64;
-    let fits = super::shapes::segment_fits(size, width, n, i, board.len() as u64);
-    match super::shapes::judge(settings, n, fits) {
+    let fits = bays::shapes::segment_fits(size, width, n, i, board.len() as u64);
+    match bays::shapes::judge(settings, n, fits) {
         Verdict::Denied(why) => return Answer::Refused(why),
         Verdict::Granted => {}
     }

@@ -1,4 +1,5 @@
 pub mod Marked
+pub mod Masked
 pub mod Searching
 pub mod Filling
 pub mod Reaching

@@ -4,11 +4,8 @@ use mathlib.Core.Path.{_≡_, refl, sym, ap, _∙_}
 use mathlib.Core.Bool.{true, false}
 use mathlib.Core.List.{List}
 use native.Mathlib.Omega.{arith}
-use lib.Bits.{bitAnd, and-mask}
-use lib.Dec.{lit<}
+use lib.Bits.{bitAnd}
 use lib.ListN.{length, getD}
-use lib.Pow.{shl-exact}
-use borrow.Author.Tests.{eq-eqb, ne-eqb}
 use Rattle.laws.proofs.Cases.{by-lt}
 use Rattle.terms.specs.declared.Settings.{Settings}
 use Rattle.rule.specs.Rule.{firstMark, next, Unmarked}
@@ -18,6 +15,7 @@ use Rattle.laws.specs.Bytes.{Bytes}
 use Rattle.signature.proofs.Windows.{roll-slides}
 use Rattle.cutting.specs.Marks.{matches, mark, nextCut}
 use Rattle.cutting.proofs.Marked.{mark-within}
+use Rattle.cutting.proofs.Masked.{matched, unmatched}
 
 -- at an offset of the search: the signature there, and no match before it
 pub record Searching (log : List ℕ) (first last mask target signature at : ℕ) : Type 0 where
@@ -31,52 +29,45 @@ pub start : (log : List ℕ) (first last mask target s : ℕ) → first ≤ last
 start log first last mask target s h e =
     record { begun = omega arith; ahead = h; here = e; passed = λ q a b. absurd (omega arith) }
 
+-- the signature one byte on
+pub rolled-on : (log : List ℕ) → Bytes log → (at : ℕ) → 48 ≤ at → at < length log → (here r : ℕ) → here ≡ signatureOf (window log (at - 48))
+    → r ≡ rolled degree lowPart 48 here (getD log (at - 48) 0) (getD log at 0) → r ≡ signatureOf (window log (at + 1 - 48))
+rolled-on log bytes at low inside here r is-here e =
+    let spot : at ≡ at - 48 + 48 = omega arith in
+    let onward : at - 48 + 1 ≡ at + 1 - 48 = omega arith in
+    roll-slides log bytes (at - 48) (omega arith) here r is-here
+    (e ∙ ap (λ i. rolled degree lowPart 48 here (getD log (at - 48) 0) (getD log i 0)) spot)
+    ∙ ap (λ q. signatureOf (window log q)) onward
+
 pub turn : (log : List ℕ) → Bytes log → {first last mask target s at : ℕ} (r : ℕ) → 48 ≤ first → last ≤ length log
     → Searching log first last mask target s at → (bitAnd s mask ≡ target → ⊥) → (at ≡ last → ⊥)
     → r ≡ rolled degree lowPart 48 s (getD log (at - 48) 0) (getD log at 0) → Searching log first last mask target r (at + 1)
 turn log bytes {first} {last} {mask} {target} {s} {at} r h fits now-at miss short e =
     let b = now-at .begun in
     let a = now-at .ahead in
-    let spot : at ≡ at - 48 + 48 = omega arith in
-    let onward : at - 48 + 1 ≡ at + 1 - 48 = omega arith in
     record {
       begun = omega arith;
       ahead = omega arith;
-      here =
-          roll-slides log bytes (at - 48) (omega arith) s r (now-at .here)
-          (e ∙ ap (λ i. rolled degree lowPart 48 s (getD log (at - 48) 0) (getD log i 0)) spot)
-          ∙ ap (λ q. signatureOf (window log q)) onward;
+      here = rolled-on log bytes at (omega arith) (omega arith) s r (now-at .here) e;
       passed = λ q lo hi m.
           by-lt q at (λ k. now-at .passed q lo k m)
           (λ k. let same : at ≡ q = omega arith in
           miss (ap (λ x. bitAnd x mask) (now-at .here ∙ ap (λ x. signatureOf (window log (x - 48))) same) ∙ m));
     }
 
--- the low k bits, as the code makes them
-pub mask-is : (k : ℕ) → k ≤ 31 → 1 * 2 ^ k % 2 ^ 32 - 1 ≡ 2 ^ k - 1
-mask-is k h = rw (shl-exact {a = 1} 1 k 32 (lit< tt) (omega arith)) (omega arith)
-
 -- where the search stops, for the mask of the settings' low bits
 module _ (s : Settings) (log : List ℕ) {first last : ℕ} (low : 48 ≤ first) (fits : last ≤ length log) (few : s .bits ≤ 31) where
-  -- a match of the masked signature is a match of its low bits
-  masked : (signature : ℕ) → bitAnd signature (1 * 2 ^ s .bits % 2 ^ 32 - 1) ≡ signature % 2 ^ s .bits
-  masked signature = ap (bitAnd signature) (mask-is (s .bits) few) ∙ and-mask signature (s .bits)
-
-  marked : (at signature : ℕ) → first ≤ at → at ≤ last → signature ≡ signatureOf (window log (at - 48))
+  pub marked : (at signature : ℕ) → first ≤ at → at ≤ last → signature ≡ signatureOf (window log (at - 48))
       → bitAnd signature (1 * 2 ^ s .bits % 2 ^ 32 - 1) ≡ s .target → mark s log at ≡ true
-  unfolding matches
   marked at signature a b is-s e =
-      mark-within s log at (omega arith) (omega arith)
-      ∙ eq-eqb _ _ (ap (λ x. x % 2 ^ s .bits) (sym is-s) ∙ sym (masked signature) ∙ e)
+      mark-within s log at (omega arith) (omega arith) ∙ ap (matches s) (sym is-s) ∙ matched s signature few e
 
-  unmarked : (at signature : ℕ) → first ≤ at → at ≤ last → signature ≡ signatureOf (window log (at - 48))
+  pub unmarked : (at signature : ℕ) → first ≤ at → at ≤ last → signature ≡ signatureOf (window log (at - 48))
       → (bitAnd signature (1 * 2 ^ s .bits % 2 ^ 32 - 1) ≡ s .target → ⊥) → mark s log at ≡ false
-  unfolding matches
   unmarked at signature a b is-s ne =
-      mark-within s log at (omega arith) (omega arith)
-      ∙ ne-eqb _ _ (λ e. ne (masked signature ∙ ap (λ x. x % 2 ^ s .bits) is-s ∙ e))
+      mark-within s log at (omega arith) (omega arith) ∙ ap (matches s) (sym is-s) ∙ unmatched s signature few ne
 
-  none-passed : {at signature : ℕ} → Searching log first last (1 * 2 ^ s .bits % 2 ^ 32 - 1) (s .target) signature at
+  pub none-passed : {at signature : ℕ} → Searching log first last (1 * 2 ^ s .bits % 2 ^ 32 - 1) (s .target) signature at
       → Unmarked (mark s log) first at
   none-passed {at} now-at q a b =
       unmarked q (signatureOf (window log (q - 48))) a (omega (arith, now-at .ahead)) refl (now-at .passed q a b)

@@ -55,9 +55,9 @@ fn put_line(text: &mut [u8], at: usize, cut: u64, piece: u64) -> usize
     end + 1
 }
 
-// Prints a line for each of the first entries of a list, and answers the last of them, or `last` where there are none.
+// Prints a line of at most 42 bytes for each of the first entries of a list, and answers the last of them, or `last` where there are none.
 fn print_cuts(list: &[u64; 33], count: u64, last: u64) -> u64 {
-    let mut text = [0u8; 1_428];
+    let mut text = [0u8; 1_386];
     let mut at = 0;
     let mut before = last;
     let mut i: usize = 0;

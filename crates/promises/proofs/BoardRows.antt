@@ -16,16 +16,21 @@ use Rattle.terms.specs.Refusals.{numberOf}
 use Rattle.terms.specs.Settings.{inRange}
 use Rattle.terms.specs.Answers.{answerNumber, unless, longest, roomFor}
 use Rattle.cutting.specs.WholeLog.{writtenAnswer}
-use Rattle.board.specs.declared.Verdict.{Verdict}
-use Rattle.board.specs.declared.Verdict.the-variants.{Granted, Denied}
-use Rattle.board.specs.Segments.{segments, boardFits, bayFits, segmentFits}
-use Rattle.board.specs.Records.{Record, entries}
-use Rattle.board.specs.Bays.{bayOf, isDone, isSound}
-use Rattle.board.specs.Merging.{judged, ifGranted, bayJudged, baysJudged, mergeJudged, boardWalk, mergeAnswer, mergeList}
-use Rattle.board.specs.Recording.{segmentOf, recordFits, recordAnswer, recorded, bayAnswer, bayAfter, segmentAnswer}
+use Rattle.laws.proofs.Cases.{by-test}
+use Rattle.merged.proofs.Orders as orders
+use Rattle.bays.proofs.Verdicts.{by-verdict}
+use Rattle.bays.specs.declared.Verdict.{Verdict}
+use Rattle.bays.specs.declared.Verdict.the-variants.{Granted, Denied}
+use Rattle.bays.specs.Segments.{segments, boardFits, bayFits, segmentFits}
+use Rattle.bays.specs.Bays.{Record, entries, bayOf, isDone, isSound}
+use Rattle.bays.specs.Judging.{judged, ifGranted, bayJudged, baysJudged}
+use Rattle.board.specs.Merging.{mergeJudged, mergeAnswer, mergeList}
+use Rattle.walk.specs.Walk.{boardWalk}
+use Rattle.recording.specs.Records.{segmentOf}
+use Rattle.board.specs.Recording.{recordFits, recordAnswer, recorded, bayAnswer, bayAfter, segmentAnswer, segmentBoard}
 use Rattle.promises.specs.Rows.{Row, row, whether, firstRow, segmentRows, bayRows, mergeRows}
-use Rattle.promises.proofs.Rows.{unless-not, unless-at-most}
-use Rattle.promises.proofs.Leaves.{Leaves, guard-leaves}
+use Rattle.promises.specs.Leaves.{Leaves, BayLeaves, BoardLeaves}
+use Rattle.promises.proofs.Unless.{unless-not, unless-at-most, guard-leaves}
 
 -- the number of a verdict, or what comes later where it is granted
 abbrev verdictOr : ℕ → Verdict → ℕ
@@ -133,11 +138,6 @@ merge-leaves s n size width board list =
     granted-leaves (mergeJudged s n size width board (length list)) (writtenAnswer walk (length list)) (plain-merge s n size width board (length list))
     (guard-leaves answerNumber (leb (length walk) (length list)) walk list refl refl)
 
--- what recording leaves in a bay lent alone: 6 marks it not done and fills it as far as it goes, every other refusal leaves it as it was
-pub record BayLeaves (number : ℕ) (offsets before after : List ℕ) : Type 0 where
-  pub untouched : (number ≡ 0 → ⊥) → (number ≡ 6 → ⊥) → after ≡ before
-  pub too-long : number ≡ 6 → after ≡ 0 ∷ 0 ∷ take (length before - 2) offsets
-
 fitting-leaves : (fits : Bool) (r : Record) (bay : List ℕ)
     → BayLeaves (answerNumber (unless fits (Refused RecordTooLong) (Wrote (2 + length (r .offsets))))) (r .offsets) bay
     (unless fits (0 ∷ 0 ∷ take (length bay - 2) (r .offsets)) (over (entries r) bay))
@@ -159,3 +159,27 @@ record-leaves mark s n size i bay =
     let r = segmentOf mark s n size i in
     granted-bay (judged s n (bayFits size (length bay) n i)) (recordAnswer r (length bay)) (plain-judged 6 (lit< tt) (omega arith) s n (bayFits size (length bay) n i))
     (fitting-leaves (recordFits r (length bay)) r bay)
+
+pub segment-leaves : (mark : ℕ → Bool) (s : Settings) (n size i width : ℕ) (board : List ℕ)
+    → BoardLeaves (answerNumber (segmentAnswer mark s n size i width (length board))) width i (segmentOf mark s n size i .offsets) board
+    (segmentBoard mark s n size i width board)
+unfolding segmentAnswer segmentBoard recordAnswer recorded answerNumber
+segment-leaves mark s n size i width board =
+    let r = segmentOf mark s n size i in
+    let fits = segmentFits size width n i (length board) in
+    let others : (j : ℕ) → (i ≡ j → ⊥) → bayOf width (segmentBoard mark s n size i width board) j ≡ bayOf width board j =
+    λ j other. orders.other-kept mark s n size width i j board other in
+    by-verdict (judged s n fits)
+    (λ v. let own = orders.own-written mark s n size width i board v in
+    record {
+      untouched = λ refusal long. by-test (recordFits r width) (λ t. absurd (refusal (rw (v, t)))) (λ t. absurd (long (rw (v, t))));
+      too-long = λ long. by-test (recordFits r width)
+          (λ t. absurd (omega (arith, rw (v, t) at long)))
+          (λ t. own .0 ∙ rw (own .1, t));
+      others-stay = others;
+    })
+    (λ why v. record {
+      untouched = λ refusal long. rw (v, segmentBoard);
+      too-long = λ long. absurd (plain-judged 6 (lit< tt) (omega arith) s n fits .other (rw v (rw v at long)));
+      others-stay = others;
+    })

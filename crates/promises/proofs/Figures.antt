@@ -8,20 +8,19 @@ use lib.Dec.{eqb}
 use lib.ListN.{length}
 use borrow.Author.Tests.{eqb-true}
 use Rattle.laws.proofs.Cases.{both-true}
-use Rattle.rule.specs.Rule.{firstMark, next, chain, cutsFrom}
+use Rattle.rule.specs.Rule.{firstMark, next, chain, cutsFrom, hop, hops, cutsUpTo}
 use Rattle.signature.specs.Polynomials.{rem, divide, foldDigits}
 use Rattle.signature.specs.Signatures.{degree, lowPart, number as numberOfBytes, signature, signatureOf}
 use Rattle.cutting.specs.Marks.{matches, mark, cutList}
 use Rattle.laws.specs.Over.{over}
 use Rattle.terms.specs.Settings.{inRange}
 use Rattle.terms.specs.Answers.{answerNumber}
-use Rattle.rule.specs.Rule.{hop, hops, cutsUpTo}
-use Rattle.board.specs.Segments.{sizeInRange, segments, segmentStart, segmentEnd, shapeFits, boardFits, segmentFits}
-use Rattle.board.specs.Records.{entries, marksAmong, marksIn, isMarker, prepend, recordAfter, slowRecord, segmentRecord}
-use Rattle.board.specs.Bays.{bayOf}
-use Rattle.board.specs.Merging.{judged}
+use Rattle.bays.specs.Segments.{sizeInRange, segments, segmentStart, segmentEnd, shapeFits, boardFits, segmentFits}
+use Rattle.bays.specs.Bays.{entries, bayOf}
+use Rattle.recording.specs.Records.{marksAmong, marksIn, isMarker, prepend, recordAfter, slowRecord, segmentRecord}
+use Rattle.bays.specs.Judging.{judged}
 use Rattle.board.specs.Recording.{recordFits, recordAnswer, recorded, withBay, segmentAnswer, segmentBoard}
-use Rattle.promises.specs.Figures.{Figure, power, cuts, segment, Holds, starred, logA, logC}
+use Rattle.promises.specs.Figures.{Figure, power, cuts, segment, Holds, starred, Each, none, and-each, logA, logC}
 
 sameLists : List ℕ → List ℕ → Bool
 sameLists [] [] = true
@@ -55,11 +54,6 @@ told (segment settings log size width i board number after) e = let both = both-
 testAll : List Figure → Bool
 testAll [] = true
 testAll (f ∷ fs) = test f && testAll fs
-
--- each figure of a table holds
-pub data Each : List Figure → Type 0 where
-  none : Each []
-  and-each : {f : Figure} {fs : List Figure} → Holds f → Each fs → Each (f ∷ fs)
 
 each : (fs : List Figure) → testAll fs ≡ true → Each fs
 unfolding testAll

@@ -1,12 +1,11 @@
 -- `refused-leaves`: what a refusal leaves in lent memory. Beside every number but 17 it is as it was; 17, the guard, keeps the cuts written.
 use Prim.Native.Nat.{ℕ, _+_}
-use mathlib.Core.Path.{_≡_, refl, sym, _∙_}
+use mathlib.Core.Path.{_≡_, refl}
 use mathlib.Core.Bool.{Bool, true, false, not}
 use mathlib.Core.List.{List}
 use native.Mathlib.Omega.{arith}
 use lib.Dec.{leb}
-use lib.ListN.{length, take}
-use Rattle.laws.specs.Over.{over}
+use lib.ListN.{length}
 use Rattle.laws.proofs.Cases.{by-test}
 use Rattle.terms.specs.declared.Settings.{Settings}
 use Rattle.terms.specs.declared.Label.{Label}
@@ -18,12 +17,13 @@ use Rattle.terms.specs.declared.Refusal.{Refusal}
 use Rattle.terms.specs.declared.Refusal.the-variants.{SettingsOutOfRange, LogTooLong, CarryNotInOrder, CarryClosed, RoomTooShort, ListFull}
 use Rattle.lists.specs.WellFormed.{wellFormed, lengthOf}
 use Rattle.cutting.specs.Marks.{cutList}
-use Rattle.cutting.specs.WholeLog.{cutLogAnswer, cutLogList, writtenAnswer, writtenList}
+use Rattle.cutting.specs.WholeLog.{cutLogAnswer, cutLogList, writtenAnswer}
 use Rattle.carry.specs.declared.Carry.{Carry}
 use Rattle.carry.specs.declared.Outcome.{Outcome}
 use Rattle.carry.specs.Carries.{inOrder, cutsIn}
 use Rattle.carry.specs.Calls.{refused, noCarry, carryRows, freshOf, blockOf, blockList, takenOf, closeOf, closeList, closingCut}
-use Rattle.promises.proofs.Rows.{passNumber}
+use Rattle.promises.specs.Leaves.{Leaves, HandsBack}
+use Rattle.promises.proofs.Unless.{passNumber, row-leaves, guard-leaves}
 use Rattle.amending.specs.declared.edits.Edit.{Edit}
 use Rattle.amending.specs.Parts.{amendedList}
 use Rattle.amending.specs.Answers.{amendmentNumber, newCutsOf, editFits, partsAnswer, judged, amendAnswer, amendList}
@@ -32,25 +32,6 @@ use Rattle.sheet.specs.declared.Sheet.the-variants as sheet
 use Rattle.sheet.specs.Write.{writeAnswer, bytesAfter}
 use Rattle.sheet.specs.Read.{readAnswer, listAfter}
 use Rattle.sheet.specs.Answers.{sheetNumber}
-
--- lent memory before and after a call that answered a number, and the cuts that it would write
-pub record Leaves (number : ℕ) (before after cuts : List ℕ) : Type 0 where
-  pub untouched : (number ≡ 0 → ⊥) → (number ≡ 17 → ⊥) → after ≡ before
-  pub guarded : number ≡ 17 → after ≡ over (take (length before) cuts) before
-
--- a row leaves memory as it was
-row-leaves : {A : Type 0} (number : A → ℕ) (passes : Bool) {refused answer : A} {before after cuts : List ℕ} → (number refused ≡ 17 → ⊥)
-    → Leaves (number answer) before after cuts → Leaves (number (unless passes refused answer)) before (unless passes before after) cuts
-row-leaves number true other later = later
-row-leaves number false other later = record { untouched = λ refusal guard. refl; guarded = λ guard. absurd (other guard) }
-
--- the guard keeps what is written
-pub guard-leaves : {A : Type 0} (number : A → ℕ) (fits : Bool) {refused answer : A} (cuts list : List ℕ) → number refused ≡ 17 → number answer ≡ 0
-    → Leaves (number (unless fits refused answer)) list (writtenList cuts list) cuts
-unfolding writtenList
-guard-leaves number true cuts list full fine =
-    record { untouched = λ refusal guard. absurd (refusal fine); guarded = λ guard. absurd (omega (arith, sym fine ∙ guard)) }
-guard-leaves number false cuts list full fine = record { untouched = λ refusal guard. absurd (guard full); guarded = λ guard. refl }
 
 pub whole-log-leaves : (s : Settings) (log list : List ℕ)
     → Leaves (answerNumber (cutLogAnswer s log (length list))) list (cutLogList s log list) (cutList s log)
@@ -65,10 +46,6 @@ whole-log-leaves s log list =
 pub fresh-leaves : (s : Settings) → (answerNumber (freshOf s .answer) ≡ 0 → ⊥) → freshOf s .carry ≡ noCarry
 unfolding freshOf answerNumber
 fresh-leaves s refusal = by-test (inRange s) (λ e. absurd (refusal (rw e))) (λ e. rw e)
-
--- a call of the single pass that is refused hands back its carry unaltered
-pub record HandsBack (c : Carry) (outcome : Outcome) : Type 0 where
-  pub unaltered : (answerNumber (outcome .answer) ≡ 0 → ⊥) → outcome .carry ≡ c
 
 row-hands : {c : Carry} (passes : Bool) (why : Refusal) {outcome : Outcome} → HandsBack c outcome → HandsBack c (unless passes (refused c why) outcome)
 row-hands true why later = later

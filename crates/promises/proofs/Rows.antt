@@ -1,22 +1,18 @@
 -- `rows`: each call answers the number of the first row of its table that holds, and succeeds, with 0, where none does.
 use Prim.Native.Nat.{ℕ, _+_, _-_, _*_}
-use mathlib.Core.Path.{_≡_, refl, _∙_}
-use mathlib.Core.Bool.{Bool, true, false, not}
+use mathlib.Core.Path.{_≡_, refl}
 use mathlib.Core.List.{List}
-use lib.Dec.{leb, ltb, eqb}
+use lib.Dec.{eqb}
 use lib.ListN.{length}
-use borrow.Author.Tests.{lt-leb, le-leb, lt-ltb, le-ltb}
-use Rattle.laws.proofs.Cases.{by-lt}
 use Rattle.terms.specs.declared.Settings.{Settings}
 use Rattle.terms.specs.declared.Label.{Label}
 use Rattle.terms.specs.Labels.{byteOf}
 use Rattle.terms.specs.Settings.{inRange}
-use Rattle.terms.specs.Answers.{answerNumber, unless, longest, roomFor}
+use Rattle.terms.specs.Answers.{answerNumber, longest, roomFor}
 use Rattle.cutting.specs.Marks.{cutList}
 use Rattle.cutting.specs.WholeLog.{cutLogAnswer, writtenAnswer}
 use Rattle.lists.specs.WellFormed.{wellFormed, lengthOf}
 use Rattle.carry.specs.declared.Carry.{Carry}
-use Rattle.carry.specs.declared.Outcome.{Outcome}
 use Rattle.carry.specs.Carries.{inOrder, cutsIn}
 use Rattle.carry.specs.Calls.{freshOf, blockOf, takenOf, closeOf}
 use Rattle.amending.specs.declared.edits.Edit.{Edit}
@@ -27,28 +23,8 @@ use Rattle.sheet.specs.Sheets.{checked}
 use Rattle.sheet.specs.Write.{writeAnswer}
 use Rattle.sheet.specs.Read.{hasTrailer, hasList, trailerOf, sheetIn, readAnswer}
 use Rattle.sheet.specs.Answers.{sheetNumber}
-use Rattle.promises.specs.Rows.{whether, firstRow, wholeLogRows, freshRows, blockRows, closeRows, amendRows, writeSheetRows, readSheetRows}
-
--- the row that a test guards holds where the test fails
-guarded : {A : Type 0} (number : A → ℕ) {refused answer : A} {k later : ℕ} (passes holds : Bool) → holds ≡ not passes
-    → number refused ≡ k → number answer ≡ later → number (unless passes refused answer) ≡ whether holds k later
-guarded number true holds e is-k others = others ∙ rw e
-guarded number false holds e is-k others = is-k ∙ rw e
-
-pub unless-not : {A : Type 0} (number : A → ℕ) {refused answer : A} {k later : ℕ} (passes : Bool)
-    → number refused ≡ k → number answer ≡ later → number (unless passes refused answer) ≡ whether (not passes) k later
-unless-not number passes = guarded number passes (not passes) refl
-
-pub unless-at-most : {A : Type 0} (number : A → ℕ) {refused answer : A} {k later : ℕ} (a b : ℕ)
-    → number refused ≡ k → number answer ≡ later → number (unless (leb a b) refused answer) ≡ whether (ltb b a) k later
-unless-at-most number a b =
-    guarded number (leb a b) (ltb b a)
-    (by-lt b a (λ h. rw (lt-ltb b a h, lt-leb a b h)) (λ h. rw (le-ltb b a h, le-leb a b h)))
-
-unless-open : {A : Type 0} (number : A → ℕ) {refused answer : A} {k later : ℕ} (closed : Bool)
-    → number refused ≡ k → number answer ≡ later → number (unless (not closed) refused answer) ≡ whether closed k later
-unless-open number true is-k others = is-k
-unless-open number false is-k others = others
+use Rattle.promises.proofs.Unless.{passNumber, unless-not, unless-at-most, unless-open}
+use Rattle.promises.specs.Rows.{firstRow, wholeLogRows, freshRows, blockRows, closeRows, amendRows, writeSheetRows, readSheetRows}
 
 pub whole-log-rows : (s : Settings) (log : List ℕ) (room : ℕ) → answerNumber (cutLogAnswer s log room) ≡ firstRow (wholeLogRows s log room)
 unfolding answerNumber cutLogAnswer writtenAnswer wholeLogRows firstRow
@@ -57,10 +33,6 @@ whole-log-rows s log room =
     (unless-at-most answerNumber (length log) longest refl
     (unless-at-most answerNumber (roomFor (s .minimum) (length log)) room refl
     (unless-at-most answerNumber (length (cutList s log)) room refl refl)))
-
--- the number that a call of the single pass answers
-unfoldable pub passNumber : Outcome → ℕ
-passNumber outcome = answerNumber (outcome .answer)
 
 pub fresh-rows : (s : Settings) → answerNumber (freshOf s .answer) ≡ firstRow (freshRows s)
 unfolding passNumber answerNumber freshOf freshRows firstRow

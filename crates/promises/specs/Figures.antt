@@ -37,6 +37,11 @@ Holds (segment settings log size width i board number after) =
     (answerNumber (segmentAnswer (mark settings log) settings (length log) size i width (length board)) ≡ number)
     × (segmentBoard (mark settings log) settings (length log) size i width board ≡ after)
 
+-- each figure of a table holds
+pub data Each : List Figure → Type 0 where
+  none : Each []
+  and-each : {f : Figure} {fs : List Figure} → Holds f → Each fs → Each (f ∷ fs)
+
 unfoldable pub starred : List Figure
 starred =
     power 384 17_961_248

@@ -13,10 +13,11 @@ use Rattle.lists.specs.WellFormed.{wellFormed, lengthOf}
 use Rattle.cutting.specs.Marks.{cutList}
 use Rattle.carry.specs.declared.Carry.{Carry}
 use Rattle.carry.specs.Carries.{inOrder, cutsIn}
-use Rattle.board.specs.Segments.{segments, boardFits, segmentFits}
-use Rattle.board.specs.Bays.{bayOf, isDone, isSound}
-use Rattle.board.specs.Recording.{segmentOf, recordFits}
-use Rattle.board.specs.Merging.{boardWalk}
+use Rattle.bays.specs.Segments.{segments, boardFits, segmentFits}
+use Rattle.bays.specs.Bays.{bayOf, isDone, isSound}
+use Rattle.recording.specs.Records.{segmentOf}
+use Rattle.board.specs.Recording.{recordFits}
+use Rattle.walk.specs.Walk.{boardWalk}
 use Rattle.amending.specs.declared.edits.Edit.{Edit}
 use Rattle.amending.specs.Parts.{amendedList}
 use Rattle.amending.specs.Answers.{newCutsOf, editFits}

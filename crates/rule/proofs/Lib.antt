@@ -2,3 +2,4 @@ pub mod First
 pub mod Chain
 pub mod Next
 pub mod Hops
+pub mod Leaps

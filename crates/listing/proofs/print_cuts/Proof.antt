@@ -9,7 +9,7 @@ use Rattle.listing.proofs.print_cuts.Statement.{statement}
 use Rattle.listing.proofs.print_cuts.Tie as tie
 
 abbrev Inv-loop : tie.InvT-loop
-Inv-loop list count last text₀ at₀ before₀ i₀ text at before i = (i ≤ 33) × (at ≤ 42 * i) × (length text ≡ 1428)
+Inv-loop list count last text₀ at₀ before₀ i₀ text at before i = (i ≤ 33) × (at ≤ 42 * i) × (length text ≡ 1386)
 
 abbrev μ-loop : tie.MeasureT-loop
 μ-loop list count last text₀ at₀ before₀ i₀ text at before i = 33 - i

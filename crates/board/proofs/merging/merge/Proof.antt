@@ -4,7 +4,8 @@ use native.Mathlib.Nat.{div-le-self}
 use native.Mathlib.Omega.{arith}
 use mathlib.Core.Path.{sym, _∙_}
 use Rattle.terms.proofs.Ranges.{ranges}
-use Rattle.board.proofs.Merges.{denied, rows, no-room, bad-bay, list-full, all-written}
+use Rattle.bays.proofs.Verdicts.{passed}
+use Rattle.board.proofs.Merges.{denied, no-room, bad-bay, list-full, all-written}
 use Rattle.board.proofs.merging.merge.Statement.{statement}
 use Rattle.board.proofs.merging.merge.Tie as tie
 
@@ -24,16 +25,16 @@ enum-told : tie.Need-enum-told
 enum-told c = search needs
 
 div-if1 : tie.Need-div-if1
-div-if1 c = omega (arith, ranges (c .before .before .before .before .before .before .args .settings) (rows _ _ _ _ (c .before .before .before .before .before .before .args .board .now) (c .before .before .before .before .before .before .args .list .now) (c .before .before .judge .ensures) (c .before .before .before .board-fits .ensures) (c .enum-told .given .1) .0))
+div-if1 c = omega (arith, ranges (c .before .before .before .before .before .before .args .settings) (passed _ _ (c .before .before .judge .ensures) (c .before .before .before .board-fits .ensures) (c .enum-told .given .1) .0))
 
 add-if1 : tie.Need-add-if1
-add-if1 c = omega (arith, div-le-self (c .before .before .before .before .before .before .args .n) (c .before .before .before .before .before .before .args .settings .minimum), rows _ _ _ _ (c .before .before .before .before .before .before .args .board .now) (c .before .before .before .before .before .before .args .list .now) (c .before .before .judge .ensures) (c .before .before .before .board-fits .ensures) (c .enum-told .given .1) .1)
+add-if1 c = omega (arith, div-le-self (c .before .before .before .before .before .before .args .n) (c .before .before .before .before .before .before .args .settings .minimum), passed _ _ (c .before .before .judge .ensures) (c .before .before .before .board-fits .ensures) (c .enum-told .given .1) .1)
 
 returns-2 : tie.Need-returns-2
 returns-2 c = no-room _ _ _ _ _ _ (c .before .before .before .judge .ensures) (c .before .before .before .before .board-fits .ensures) (c .before .enum-told .given .1) (c .if1 .taken)
 
 judge-bays-requires : tie.Need-judge-bays-requires
-judge-bays-requires c κs = let known = rows _ _ _ _ (c .before .before .before .before .before .before .before .args .board .now) (c .before .before .before .before .before .before .before .args .list .now) (c .before .before .before .judge .ensures) (c .before .before .before .before .board-fits .ensures) (c .before .enum-told .given .1) in (known .1, known .2)
+judge-bays-requires c κs = let known = passed _ _ (c .before .before .before .judge .ensures) (c .before .before .before .before .board-fits .ensures) (c .before .enum-told .given .1) in (known .1, known .2)
 
 enum-known-why-2 : tie.Need-enum-known-why-2
 enum-known-why-2 c = search needs
@@ -45,7 +46,7 @@ enum-told-2 : tie.Need-enum-told-2
 enum-told-2 c = search needs
 
 walk-board-requires : tie.Need-walk-board-requires
-walk-board-requires c κs = (rows _ _ _ _ (c .before .before .before .before .before .before .before .before .before .before .before .args .board .now) (c .before .before .before .before .before .before .before .before .before .before .before .args .list .now) (c .before .before .before .before .before .before .before .judge .ensures) (c .before .before .before .before .before .before .before .before .board-fits .ensures) (c .before .before .before .before .before .enum-told .given .1), sym (c .before .before .before .judge-bays .ensures) ∙ c .before .enum-told2 .given .1)
+walk-board-requires c κs = (passed _ _ (c .before .before .before .before .before .before .before .judge .ensures) (c .before .before .before .before .before .before .before .before .board-fits .ensures) (c .before .before .before .before .before .enum-told .given .1), sym (c .before .before .before .judge-bays .ensures) ∙ c .before .enum-told2 .given .1)
 
 same-length : tie.Need-same-length
 same-length c = search needs

@@ -1,9 +1,11 @@
 -- `board::segment::segment` meets its contract: rows 1, 2 and 7, then the segment's own bay.
 use borrow.Author.Needs.{needs}
-use mathlib.Core.Bool.{true}
 use native.Mathlib.Omega.{arith}
-use Rattle.board.proofs.Ranges.{lent-length}
-use Rattle.board.proofs.Fills.{board-denied, board-rows, board-recorded}
+use mathlib.Core.Path.{_∙_}
+use Rattle.terms.specs.declared.Answer.the-variants.{Refused}
+use Rattle.bays.proofs.Verdicts.{refused-at, goes-on, passed}
+use Rattle.board.specs.Recording.{segmentAnswer, segmentBoard}
+use Rattle.board.proofs.Fills.{segment-there, lent-wide, lent-answer, put-back}
 use Rattle.board.proofs.segment.segment.Statement.{statement}
 use Rattle.board.proofs.segment.segment.Tie as tie
 
@@ -17,19 +19,26 @@ enum-known-why : tie.Need-enum-known-why
 enum-known-why c = search needs
 
 returns : tie.Need-returns
-returns c = board-denied _ _ _ _ _ _ (c .before .before .before .before .before .before .before .args .board .now) (c .before .before .before .judge .ensures) (c .before .before .before .before .segment-fits .ensures) _ (c .before .why .given .1)
+unfolding segmentAnswer segmentBoard
+returns c = refused-at _ _ (c .before .before .before .judge .ensures) (c .before .before .before .before .segment-fits .ensures) (c .before .why .given .1) Refused _ _ _
 
 enum-told : tie.Need-enum-told
 enum-told c = search needs
 
 mul-start : tie.Need-mul-start
-mul-start c = omega (arith, board-rows (λ _. true) _ _ _ _ _ (c .before .before .before .before .before .before .args .board .now) (c .before .before .judge .ensures) (c .before .before .before .segment-fits .ensures) (c .enum-told .given .1) .3, c .before .before .before .before .before .before .good)
+mul-start c =
+    let rows = passed _ _ (c .before .before .judge .ensures) (c .before .before .before .segment-fits .ensures) (c .enum-told .given .1) in
+    omega (arith, segment-there _ _ _ _ _ (rows .1) (rows .2) .2, c .before .before .before .before .before .before .good)
 
 add-fill-bay : tie.Need-add-fill-bay
-add-fill-bay c = omega (arith, board-rows (λ _. true) _ _ _ _ _ (c .before .before .before .before .before .before .args .board .now) (c .before .before .judge .ensures) (c .before .before .before .segment-fits .ensures) (c .enum-told .given .1) .3, c .before .before .before .before .before .before .good)
+add-fill-bay c =
+    let rows = passed _ _ (c .before .before .judge .ensures) (c .before .before .before .segment-fits .ensures) (c .enum-told .given .1) in
+    omega (arith, segment-there _ _ _ _ _ (rows .1) (rows .2) .2, c .before .before .before .before .before .before .good)
 
 mul-fill-bay : tie.Need-mul-fill-bay
-mul-fill-bay c = omega (arith, board-rows (λ _. true) _ _ _ _ _ (c .before .before .before .before .before .before .args .board .now) (c .before .before .judge .ensures) (c .before .before .before .segment-fits .ensures) (c .enum-told .given .1) .3, c .before .before .before .before .before .before .good)
+mul-fill-bay c =
+    let rows = passed _ _ (c .before .before .judge .ensures) (c .before .before .before .segment-fits .ensures) (c .enum-told .given .1) in
+    omega (arith, segment-there _ _ _ _ _ (rows .1) (rows .2) .2, c .before .before .before .before .before .before .good)
 
 sub-fill-bay : tie.Need-sub-fill-bay
 sub-fill-bay c = search needs
@@ -38,16 +47,26 @@ part-fill-bay-start : tie.Need-part-fill-bay-start
 part-fill-bay-start c = search needs
 
 part-fill-bay-end : tie.Need-part-fill-bay-end
-part-fill-bay-end c = board-rows (λ _. true) _ _ _ _ _ (c .before .before .before .before .before .before .args .board .now) (c .before .before .judge .ensures) (c .before .before .before .segment-fits .ensures) (c .enum-told .given .1) .3
+part-fill-bay-end c =
+    let rows = passed _ _ (c .before .before .judge .ensures) (c .before .before .before .segment-fits .ensures) (c .enum-told .given .1) in
+    segment-there _ _ _ _ _ (rows .1) (rows .2) .2
 
 fill-bay-requires : tie.Need-fill-bay-requires
-fill-bay-requires c κs = let known = board-rows (λ _. true) _ _ _ _ _ (c .before .before .before .before .before .before .before .args .board .now) (c .before .before .before .judge .ensures) (c .before .before .before .before .segment-fits .ensures) (c .before .enum-told .given .1) in (known .0, known .1, lent-length _ (c .before .before .before .before .before .before .before .args .board .now) (c .before .before .before .before .before .before .before .args .i) (known .3) (known .2))
+fill-bay-requires c κs =
+    let rows = passed _ _ (c .before .before .before .judge .ensures) (c .before .before .before .before .segment-fits .ensures) (c .before .enum-told .given .1) in
+    let there = segment-there _ _ _ _ _ (rows .1) (rows .2) in
+    (rows .0, there .0, lent-wide _ _ _ (there .2) (there .1))
 
 same-length : tie.Need-same-length
 same-length c = search needs
 
 returns-2 : tie.Need-returns-2
-returns-2 c = board-recorded _ _ _ _ _ _ (c .before .before .before .before .before .before .before .before .before .before .args .board .now) (c .before .before .before .before .before .before .judge .ensures) (c .before .before .before .before .before .before .before .segment-fits .ensures) (c .before .before .before .before .enum-told .given .1) (c .before .before .fill-bay .ensures .0) (c .before .before .fill-bay .ensures .1)
+unfolding segmentAnswer segmentBoard
+returns-2 c =
+    let rows = passed _ _ (c .before .before .before .before .before .before .judge .ensures) (c .before .before .before .before .before .before .before .segment-fits .ensures) (c .before .before .before .before .enum-told .given .1) in
+    let fits = segment-there _ _ _ _ _ (rows .1) (rows .2) .2 in
+    goes-on _ _ (c .before .before .before .before .before .before .judge .ensures) (c .before .before .before .before .before .before .before .segment-fits .ensures) (c .before .before .before .before .enum-told .given .1) Refused _
+    (c .before .before .fill-bay .ensures .0 ∙ lent-answer _ _ _ fits _) (put-back _ _ _ _ (c .before .before .fill-bay .ensures .1))
 
 pub segment-spec : {M : Type 1} → statement M
 segment-spec =

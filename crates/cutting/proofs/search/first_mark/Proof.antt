@@ -1,11 +1,10 @@
 -- `cutting::search::first_mark` meets its contract: the loop's invariant is `Searching`, and each way out is one law about it.
 use native.Mathlib.Omega.{arith}
 use Prim.Native.Nat.{_-_}
+use Rattle.cutting.proofs.Masked.{mask-some}
 use Rattle.cutting.proofs.Searching.{Searching, start, turn, found, ended}
 use Rattle.terms.proofs.Ranges.{ranges}
 use Rattle.signature.proofs.Windows.{signature-lt}
-use lib.Pow.{pow-pos, shl-exact}
-use lib.Dec.{lit<}
 use Rattle.cutting.proofs.search.first_mark.Statement.{statement}
 use Rattle.cutting.proofs.search.first_mark.Tie as tie
 
@@ -20,7 +19,7 @@ shl-mask : tie.Need-shl-mask Inv-loop μ-loop
 shl-mask c = omega (arith, ranges _ (c .before .before .pre .0) .few-bits)
 
 sub-mask : tie.Need-sub-mask Inv-loop μ-loop
-sub-mask c = omega (arith, pow-pos (c .before .before .args .settings .bits), shl-exact {a = 1} 1 (c .before .before .args .settings .bits) 32 (lit< tt) (omega (arith, ranges _ (c .before .before .pre .0) .few-bits)))
+sub-mask c = mask-some _ (ranges _ (c .before .before .pre .0) .few-bits)
 
 sub-of-window : tie.Need-sub-of-window Inv-loop μ-loop
 sub-of-window c = omega (arith, c .before .before .pre)

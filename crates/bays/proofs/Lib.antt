@@ -1,0 +1,4 @@
+pub mod Ranges
+pub mod Offsets
+pub mod Sound
+pub mod Verdicts

@@ -1,0 +1,144 @@
+-- A true board is never refused by 8 or 9: a bay that holds its segment's record is done and not malformed.
+use Prim.Native.Nat.{ℕ, zero, suc, _+_, _-_, _≤_, _<_}
+use mathlib.Core.Path.{_≡_, refl, ap, _∙_}
+use mathlib.Core.Bool.{Bool, true, false}
+use mathlib.Core.List.{List, _∷_, _++_}
+use native.Mathlib.Nat.{zero-mul}
+use native.Mathlib.Omega.{arith}
+use lib.Dec.{eqb}
+use lib.ListN.{length, take, length-append}
+use lib.Seq.{take-append-seam}
+use borrow.Author.Tests.{le-leb, lt-ltb, eq-eqb}
+use Rattle.laws.proofs.Cases.{by-test, or-true}
+use Rattle.rule.specs.Rule.{hop, cutsUpTo}
+use Rattle.rule.proofs.Hops.{UpTo, past, leap, up-to, hop-rises, hop-long}
+use Rattle.lists.specs.WellFormed.{stepFits}
+use Rattle.terms.specs.declared.Settings.{Settings}
+use Rattle.bays.specs.declared.Verdict.the-variants.{Granted}
+use Rattle.bays.specs.Segments.{segments, segmentStart, segmentEnd}
+use Rattle.bays.specs.Bays.{Record, entries, bayOf, isDone, isSound, offsetCount, recordIn, risesWithin, isListed, followers, stepsWithin, fromMarker, markerFits, Holds}
+use Rattle.recording.specs.Records.{slowRecord, recordAfter, isMarker, prepend, segmentRecord}
+use Rattle.bays.specs.Judging.{bayJudged, baysJudged}
+use Rattle.recording.proofs.Marking.{Marks, none-left, then-mark, marks-in}
+use Rattle.bays.proofs.Ranges.{spans}
+use Rattle.recording.proofs.After.{at-marker, no-marker, marker-later}
+
+-- what a bay holds is read back
+pub read-back : (bay : List ℕ) (r : Record) → Holds bay r → recordIn bay ≡ r
+unfolding recordIn offsetCount entries
+read-back bay r h =
+    let count : suc (length (r .offsets)) - 1 ≡ length (r .offsets) = omega arith in
+    let whole : take (suc (length (r .offsets)) - 1) (r .offsets ++ h .rest) ≡ r .offsets = rw count (take-append-seam (r .offsets) (h .rest)) in
+    ap recordIn (h .begins) ∙ ap {B = Record} (λ (l : List ℕ). record { marker = r .marker; offsets = l }) whole
+
+room : (bay : List ℕ) (r : Record) → Holds bay r → offsetCount bay ≤ length bay - 2
+unfolding offsetCount entries
+room bay r h =
+    let long : length bay ≡ suc (suc (length (r .offsets ++ h .rest))) = ap length (h .begins) in
+    rw (h .begins) (omega (arith, length-append (r .offsets) (h .rest)))
+
+done : (bay : List ℕ) (r : Record) → Holds bay r → isDone bay ≡ true
+unfolding isDone entries
+done bay r h = ap isDone (h .begins) ∙ lt-ltb 0 (suc (length (r .offsets))) (omega arith)
+
+rises-on : (a e p : ℕ) (l : List ℕ) → a < p → p ≤ e → risesWithin a e (p ∷ l) ≡ risesWithin p e l
+unfolding risesWithin
+rises-on a e p l above inside = rw (lt-ltb a p above, le-leb p e inside, risesWithin)
+
+module _ (mark : ℕ → Bool) (lo hi : ℕ) (positive : 0 < lo) (order : lo ≤ hi) (e : ℕ) where
+  rises-hops : {c m : ℕ} {l : List ℕ} → UpTo (hop mark lo hi) e c l m → risesWithin c e l ≡ true
+  unfolding risesWithin
+  rises-hops (past b) = refl
+  rises-hops (leap {c = c} {l = l} b r) = rises-on c e (hop mark lo hi c) l (hop-rises mark lo hi positive order c) b ∙ rises-hops r
+
+  steps-hops : {c m : ℕ} {l : List ℕ} → UpTo (hop mark lo hi) e c l m → stepsWithin lo hi c l ≡ true
+  unfolding stepsWithin stepFits
+  steps-hops (past b) = refl
+  steps-hops (leap {c = c} {l = l} b r) =
+      let long = hop-long mark lo hi c order in
+      rw (lt-ltb c (hop mark lo hi c) (omega arith), le-leb (hop mark lo hi c - c) hi (omega arith), le-leb lo (hop mark lo hi c - c) (omega arith), stepsWithin)
+      (steps-hops r)
+
+  rises-after : {a : ℕ} {marks : List ℕ} → Marks mark e a marks → risesWithin a e (recordAfter mark lo hi e a marks .offsets) ≡ true
+  unfolding risesWithin recordAfter prepend cutsUpTo
+  rises-after (none-left u) = refl
+  rises-after {a} (then-mark b {l = marks} above inside m u r) =
+      by-test (isMarker lo hi a b)
+      (λ t. ap (λ (x : Record). risesWithin a e (x .offsets)) (at-marker mark lo hi e a b marks t)
+      ∙ rises-on a e b (cutsUpTo mark lo hi e b) above inside
+      ∙ rises-hops (up-to (hop mark lo hi) e (hop-rises mark lo hi positive order) b))
+      (λ t. ap (λ (x : Record). risesWithin a e (x .offsets)) (no-marker mark lo hi e a b marks t)
+      ∙ rises-on a e b (recordAfter mark lo hi e b marks .offsets) above inside
+      ∙ rises-after r)
+
+  rises-slow : {a : ℕ} {marks : List ℕ} → Marks mark e a marks → risesWithin a e (slowRecord mark lo hi e marks .offsets) ≡ true
+  unfolding risesWithin slowRecord prepend
+  rises-slow (none-left u) = refl
+  rises-slow {a} (then-mark b {l = marks} above inside m u r) = rises-on a e b (recordAfter mark lo hi e b marks .offsets) above inside ∙ rises-after r
+
+  -- an offset that is not the marker, before the others
+  fits-on : (i b : ℕ) (r : Record) → eqb b (r .marker) ≡ false → markerFits lo hi (suc i) (prepend b r) ≡ markerFits lo hi (suc i) r
+  unfolding markerFits fromMarker prepend isListed followers
+  fits-on i b r other = rw (other, isListed, followers)
+
+  fits-after : (i : ℕ) {a : ℕ} {marks : List ℕ} → Marks mark e a marks → markerFits lo hi (suc i) (recordAfter mark lo hi e a marks) ≡ true
+  unfolding markerFits fromMarker recordAfter isListed followers stepsWithin cutsUpTo
+  fits-after i (none-left u) = refl
+  fits-after i {a} (then-mark b {l = marks} above inside m u r) =
+      by-test (isMarker lo hi a b)
+      (λ t. ap (markerFits lo hi (suc i)) (at-marker mark lo hi e a b marks t)
+      ∙ rw (eq-eqb b b refl, isListed, followers) (rw or-true (steps-hops (up-to (hop mark lo hi) e (hop-rises mark lo hi positive order) b))))
+      (λ t. ap (markerFits lo hi (suc i)) (no-marker mark lo hi e a b marks t)
+      ∙ fits-on i b (recordAfter mark lo hi e b marks) (marker-later mark lo hi e b (omega arith) (omega arith) r)
+      ∙ fits-after i r)
+
+  fits-slow : (i : ℕ) {a : ℕ} {marks : List ℕ} → Marks mark e a marks → markerFits lo hi (suc i) (slowRecord mark lo hi e marks) ≡ true
+  unfolding markerFits fromMarker slowRecord isListed followers stepsWithin
+  fits-slow i (none-left u) = refl
+  fits-slow i {a} (then-mark b {l = marks} above inside m u r) =
+      fits-on i b (recordAfter mark lo hi e b marks) (marker-later mark lo hi e b (omega arith) (omega arith) r) ∙ fits-after i r
+
+module _ (mark : ℕ → Bool) (lo hi : ℕ) (positive : 0 < lo) (order : lo ≤ hi) (size n : ℕ) (sized : 0 < size) where
+  rises-record : (i : ℕ) → i < segments size n
+      → risesWithin (segmentStart size i) (segmentEnd size n i) (segmentRecord mark lo hi size n i .offsets) ≡ true
+  unfolding segmentRecord cutsUpTo
+  rises-record zero h =
+      let e : ℕ = segmentEnd size n 0 in
+      let start : segmentStart size 0 ≡ 0 = unfold segmentStart in zero-mul size in
+      rw start (rises-hops mark lo hi positive order e (up-to (hop mark lo hi) e (hop-rises mark lo hi positive order) 0))
+  rises-record (suc i) h =
+      let e : ℕ = segmentEnd size n (suc i) in
+      let span = spans size n sized (suc i) h in
+      rises-slow mark lo hi positive order e (marks-in mark e (segmentStart size (suc i)) (omega arith))
+
+  fits-record : (i : ℕ) → i < segments size n → markerFits lo hi i (segmentRecord mark lo hi size n i) ≡ true
+  unfolding segmentRecord markerFits cutsUpTo
+  fits-record zero h =
+      let e : ℕ = segmentEnd size n 0 in
+      steps-hops mark lo hi positive order e (up-to (hop mark lo hi) e (hop-rises mark lo hi positive order) 0)
+  fits-record (suc i) h =
+      let e : ℕ = segmentEnd size n (suc i) in
+      let span = spans size n sized (suc i) h in
+      fits-slow mark lo hi positive order e i (marks-in mark e (segmentStart size (suc i)) (omega arith))
+
+  sound : (i : ℕ) → i < segments size n → (bay : List ℕ) → Holds bay (segmentRecord mark lo hi size n i) → isSound lo hi size n i bay ≡ true
+  unfolding isSound
+  sound i h bay held =
+      let r : Record = segmentRecord mark lo hi size n i in
+      rw (read-back bay r held, le-leb (offsetCount bay) (length bay - 2) (room bay r held), rises-record i h, fits-record i h)
+
+-- a board whose bays hold their segments' records is accepted
+module _ (s : Settings) (mark : ℕ → Bool) (positive : 0 < s .minimum) (order : s .minimum ≤ s .maximum) (size n : ℕ) (sized : 0 < size)
+    (width : ℕ) (board : List ℕ)
+    (held : (i : ℕ) → i < segments size n → Holds (bayOf width board i) (segmentRecord mark (s .minimum) (s .maximum) size n i)) where
+  from-bay : (k i : ℕ) → i + k ≡ segments size n → baysJudged s size width n board k i ≡ Granted
+  unfolding baysJudged bayJudged
+  from-bay zero i count = refl
+  from-bay (suc k) i count =
+      let here : i < segments size n = omega arith in
+      let bay : List ℕ = bayOf width board i in
+      rw (done bay _ (held i here), sound mark (s .minimum) (s .maximum) positive order size n sized i here bay (held i here), bayJudged, baysJudged)
+      (from-bay k (suc i) (omega arith))
+
+  pub true-bays-accepted : baysJudged s size width n board (segments size n) 0 ≡ Granted
+  true-bays-accepted = from-bay (segments size n) 0 (omega arith)

@@ -1,0 +1,6 @@
+pub mod Marker
+pub mod Following
+pub mod Reading
+pub mod Accepted
+pub mod Orders
+pub mod Merged

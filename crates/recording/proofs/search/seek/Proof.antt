@@ -1,0 +1,71 @@
+-- `recording::search::seek` meets its contract: the loop's invariant is `Searching`, and each way out is one law about it.
+use native.Mathlib.Omega.{arith}
+use Prim.Native.Nat.{_-_}
+use Rattle.terms.proofs.Ranges.{ranges}
+use Rattle.signature.proofs.Windows.{signature-lt}
+use Rattle.cutting.proofs.Masked.{mask-some}
+use Rattle.cutting.proofs.Searching.{Searching, start, turn}
+use Rattle.recording.proofs.Stretching.{sought, not-sought}
+use Rattle.recording.proofs.search.seek.Statement.{statement}
+use Rattle.recording.proofs.search.seek.Tie as tie
+
+abbrev Inv-loop : tie.InvT-loop
+Inv-loop stretch first last signature leaving pushed mask target at₀ here₀ at here = Searching stretch first last mask target here at
+
+abbrev μ-loop : tie.MeasureT-loop
+μ-loop stretch first last signature leaving pushed mask target at₀ here₀ at here = last - at
+
+shl-mask : tie.Need-shl-mask Inv-loop μ-loop
+shl-mask c = omega (arith, ranges _ (c .before .before .pre .0) .few-bits)
+
+sub-mask : tie.Need-sub-mask Inv-loop μ-loop
+sub-mask c = mask-some _ (ranges _ (c .before .before .pre .0) .few-bits)
+
+loop-holds : tie.Need-loop-holds Inv-loop μ-loop
+loop-holds c = start _ _ _ _ _ _ (c .before .before .pre .1 .0 .1) (c .before .before .pre .1 .0 .3)
+
+returns : tie.Need-returns Inv-loop μ-loop
+returns c = not-sought _ _ (c .before .before .before .before .before .pre .1 .0 .0) (c .before .before .before .before .before .pre .1 .0 .2) (ranges _ (c .before .before .before .before .before .pre .0) .few-bits) (c .before .before .loop .inv) (c .before .loop-test .taken) (c .if1 .taken)
+
+sub-roll : tie.Need-sub-roll Inv-loop μ-loop
+sub-roll c = omega (arith, c .before .before .loop .inv .begun, c .before .before .before .before .before .pre .1 .0 .0)
+
+shared-slice-read-roll : tie.Need-shared-slice-read-roll Inv-loop μ-loop
+shared-slice-read-roll c = omega (arith, c .before .before .before .loop .inv .begun, c .before .before .before .loop .inv .ahead, c .before .if1 .left, c .before .before .before .before .before .before .pre .1 .0 .0)
+
+shared-slice-read-roll-2 : tie.Need-shared-slice-read-roll-2 Inv-loop μ-loop
+shared-slice-read-roll-2 c = omega (arith, c .before .before .before .before .loop .inv .ahead, c .before .before .if1 .left)
+
+roll-requires : tie.Need-roll-requires Inv-loop μ-loop
+roll-requires c κs = (signature-lt _ (c .before .before .before .before .loop .inv .here), c .before .before .before .before .before .before .before .pre .1 .1 .0, c .before .before .before .before .before .before .before .pre .1 .1 .1)
+
+add-at : tie.Need-add-at Inv-loop μ-loop
+add-at c = omega (arith, c .before .before .before .before .before .loop .inv .ahead, c .before .before .before .if1 .left, c .before .before .before .before .before .before .before .before .good)
+
+loop-less : tie.Need-loop-less Inv-loop μ-loop
+loop-less c = omega (arith, c .before .before .before .before .before .loop .inv .ahead, c .before .before .before .if1 .left)
+
+loop-again : tie.Need-loop-again Inv-loop μ-loop
+loop-again c = turn _ (λ j. c .before .shared-slice-known3 .given j .fits) _ (c .before .before .before .before .before .before .before .before .pre .1 .0 .0) (c .before .before .before .before .before .before .before .before .pre .1 .0 .2) (c .before .before .before .before .before .loop .inv) (c .before .before .before .before .loop-test .taken) (c .before .before .before .if1 .left) (c .roll .ensures)
+
+returns-2 : tie.Need-returns-2 Inv-loop μ-loop
+returns-2 c = sought _ _ (c .before .before .before .before .pre .1 .0 .0) (c .before .before .before .before .pre .1 .0 .2) (ranges _ (c .before .before .before .before .pre .0) .few-bits) (c .before .loop .inv) (c .loop-test .left)
+
+pub seek-spec : {M : Type 1} → statement M
+seek-spec =
+    tie.close
+    (tie.spec
+    Inv-loop
+    μ-loop
+    shl-mask
+    sub-mask
+    loop-holds
+    returns
+    sub-roll
+    shared-slice-read-roll
+    shared-slice-read-roll-2
+    roll-requires
+    add-at
+    loop-less
+    loop-again
+    returns-2)

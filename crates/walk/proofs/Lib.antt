@@ -1,0 +1,4 @@
+pub mod Offsets
+pub mod Rises
+pub mod Walks
+pub mod BayWalks
