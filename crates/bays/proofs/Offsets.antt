@@ -10,7 +10,7 @@ use lib.ListN.{length, getD, take, drop, drop-of-length-le}
 use lib.Seq.{drop-cons}
 use borrow.Author.Tests.{eq-eqb, ne-eqb}
 use Rattle.laws.proofs.Cases.{by-test, or-true}
-use Rattle.laws.proofs.Lent.{rest-lent}
+use Rattle.laws.proofs.Slices.{rest-from}
 use Rattle.lists.specs.WellFormed.{stepFits}
 use Rattle.bays.specs.Bays.{Record, risesWithin, stepsWithin, isListed, followers, fromMarker, markerFits}
 
@@ -34,7 +34,7 @@ module _ (offsets : List ℕ) (k : ℕ) (h : k < length offsets) where
     pub marker-here : getD offsets k 0 ≡ marker
         → fromMarker minimum maximum marker (drop k offsets) ≡ stepsWithin minimum maximum marker (take (length offsets - (k + 1)) (drop (k + 1) offsets))
     unfolding fromMarker isListed followers
-    marker-here e = rw (drop-cons offsets k 0 h, eq-eqb _ _ e, isListed, followers, or-true, rest-lent offsets (k + 1), add-one)
+    marker-here e = rw (drop-cons offsets k 0 h, eq-eqb _ _ e, isListed, followers, or-true, rest-from offsets (k + 1), add-one)
 
 pub marker-none : (offsets : List ℕ) (k : ℕ) → length offsets ≤ k → (minimum maximum marker : ℕ) → fromMarker minimum maximum marker (drop k offsets) ≡ eqb marker 0
 unfolding fromMarker isListed followers stepsWithin

@@ -9,7 +9,7 @@ use lib.ListN.{length, take, drop, length-take, length-drop}
 use mathlib.Core.Bool.{true}
 use borrow.Author.Tests.{leb-true}
 use Rattle.laws.proofs.Cases.{by-lt, both-true}
-use Rattle.laws.proofs.Lent.{part-lent}
+use Rattle.laws.proofs.Slices.{part-lent}
 use Rattle.bays.specs.Bays.{bayOf}
 use Rattle.bays.specs.Segments.{segments, segmentStart, segmentEnd, sizeInRange, shapeFits, boardFits}
 

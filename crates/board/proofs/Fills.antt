@@ -20,8 +20,8 @@ use Rattle.terms.specs.Answers.{longest}
 use Rattle.bays.specs.Segments.{segments, shapeFits, boardFits, bayFits, segmentFits, There}
 use Rattle.board.specs.Recording.{recordFits, recordAnswer, recorded, withBay}
 use Rattle.recording.specs.Stretches.{Records}
-use Rattle.laws.proofs.Sets.{sets-over}
-use Rattle.laws.proofs.Lent.{rest-lent}
+use Rattle.laws.proofs.Sets.{sets-written}
+use Rattle.laws.proofs.Slices.{rest-from}
 use Rattle.bays.proofs.Ranges.{sizes, bay-lent, bay-inside, length-bay}
 use Rattle.bays.specs.Bays.{bayOf}
 
@@ -32,7 +32,7 @@ module _ (r : Record) (rec : Recorded) (bay part : List ℕ) (wide : 2 ≤ lengt
 
   part-is : part ≡ over (take (length bay - 2) (r .offsets)) (drop 2 bay)
   part-is =
-      w .kept ∙ ap (λ (l : List ℕ). sets l 0 (r .offsets)) (rest-lent bay 2) ∙ sets-over (drop 2 bay) (r .offsets)
+      w .kept ∙ ap (λ (l : List ℕ). sets l 0 (r .offsets)) (rest-from bay 2) ∙ sets-written (drop 2 bay) (r .offsets)
       ∙ ap (λ (k : ℕ). over (take k (r .offsets)) (drop 2 bay)) (length-drop 2 bay)
 
   -- and entries 0 and 1 are stored last

@@ -1,7 +1,7 @@
 pub mod Bytes
 pub mod Cases
 pub mod Last
-pub mod Lent
 pub mod Sets
+pub mod Slices
 pub mod Tables
 pub mod Writing

@@ -21,9 +21,9 @@ sets-past l i [] h = refl
 sets-past l i (x ∷ f) h = sets-past (set l i x) (suc i) f (rw length-set (omega arith)) ∙ set-out l i x h
 
 -- of entries stored from the first place on, as many are there as there are places
-pub sets-over : (l f : List ℕ) → sets l 0 f ≡ over (take (length l) f) l
+pub sets-written : (l f : List ℕ) → sets l 0 f ≡ over (take (length l) f) l
 unfolding over
-sets-over l f =
+sets-written l f =
     let fits : List ℕ = take (length l) f in
     let short : 0 + length fits ≤ length l = rw length-take (omega arith) in
     ap (λ (k : List ℕ). sets l 0 k) (sym (take-append-drop (length l) f))

@@ -1,5 +1,6 @@
-// Lists of cuts: when one is well formed.
+// Lists of cuts: when one is well formed, and writing one.
 ghost use mathlib.Core.Path.{_≡_};
+ghost use lib.ListN.{set};
 ghost use Rattle.lists.specs.WellFormed.{stepFits, wellFormed};
 
 // Whether the step from one entry to the next is allowed. The numbers are any: that they rise is seen before they are subtracted.
@@ -40,4 +41,13 @@ pub fn well_formed(minimum: u64, maximum: u64, list: &[u64]) -> bool
         return false;
     }
     true
+}
+
+// Writes one entry, if the list has that place.
+pub fn put(list: &mut [u64], place: u64, entry: u64)
+    ensures { λ r. ⌜ now (list .exit) ≡ set (now (list .entry)) place entry ⌝ }
+{
+    if place < list.len() as u64 {
+        list[place as usize] = entry;
+    }
 }

@@ -1,13 +1,12 @@
 -- A true board is never refused by 8 or 9: a bay that holds its segment's record is done and not malformed.
 use Prim.Native.Nat.{ℕ, zero, suc, _+_, _-_, _≤_, _<_}
-use mathlib.Core.Path.{_≡_, refl, ap, _∙_}
+use mathlib.Core.Path.{_≡_, refl, _∙_}
 use mathlib.Core.Bool.{Bool, true, false}
-use mathlib.Core.List.{List, _∷_, _++_}
+use mathlib.Core.List.{List, _∷_}
 use native.Mathlib.Nat.{zero-mul}
 use native.Mathlib.Omega.{arith}
 use lib.Dec.{eqb}
-use lib.ListN.{length, take, length-append}
-use lib.Seq.{take-append-seam}
+use lib.ListN.{length}
 use borrow.Author.Tests.{le-leb, lt-ltb, eq-eqb}
 use Rattle.laws.proofs.Cases.{by-test, or-true}
 use Rattle.rule.specs.Rule.{hop, cutsUpTo}
@@ -16,30 +15,13 @@ use Rattle.lists.specs.WellFormed.{stepFits}
 use Rattle.terms.specs.declared.Settings.{Settings}
 use Rattle.bays.specs.declared.Verdict.the-variants.{Granted}
 use Rattle.bays.specs.Segments.{segments, segmentStart, segmentEnd}
-use Rattle.bays.specs.Bays.{Record, entries, bayOf, isDone, isSound, offsetCount, recordIn, risesWithin, isListed, followers, stepsWithin, fromMarker, markerFits, Holds}
+use Rattle.bays.specs.Bays.{Record, bayOf, isSound, offsetCount, risesWithin, isListed, followers, stepsWithin, fromMarker, markerFits, Holds}
 use Rattle.recording.specs.Records.{slowRecord, recordAfter, isMarker, prepend, segmentRecord}
 use Rattle.bays.specs.Judging.{bayJudged, baysJudged}
 use Rattle.recording.proofs.Marking.{Marks, none-left, then-mark, marks-in}
 use Rattle.bays.proofs.Ranges.{spans}
+use Rattle.merged.proofs.ReadBack.{read-back, room, done}
 use Rattle.recording.proofs.After.{at-marker, no-marker, marker-later}
-
--- what a bay holds is read back
-pub read-back : (bay : List ℕ) (r : Record) → Holds bay r → recordIn bay ≡ r
-unfolding recordIn offsetCount entries
-read-back bay r h =
-    let count : suc (length (r .offsets)) - 1 ≡ length (r .offsets) = omega arith in
-    let whole : take (suc (length (r .offsets)) - 1) (r .offsets ++ h .rest) ≡ r .offsets = rw count (take-append-seam (r .offsets) (h .rest)) in
-    ap recordIn (h .begins) ∙ ap {B = Record} (λ (l : List ℕ). record { marker = r .marker; offsets = l }) whole
-
-room : (bay : List ℕ) (r : Record) → Holds bay r → offsetCount bay ≤ length bay - 2
-unfolding offsetCount entries
-room bay r h =
-    let long : length bay ≡ suc (suc (length (r .offsets ++ h .rest))) = ap length (h .begins) in
-    rw (h .begins) (omega (arith, length-append (r .offsets) (h .rest)))
-
-done : (bay : List ℕ) (r : Record) → Holds bay r → isDone bay ≡ true
-unfolding isDone entries
-done bay r h = ap isDone (h .begins) ∙ lt-ltb 0 (suc (length (r .offsets))) (omega arith)
 
 rises-on : (a e p : ℕ) (l : List ℕ) → a < p → p ≤ e → risesWithin a e (p ∷ l) ≡ risesWithin p e l
 unfolding risesWithin
@@ -59,67 +41,70 @@ module _ (mark : ℕ → Bool) (lo hi : ℕ) (positive : 0 < lo) (order : lo ≤
       rw (lt-ltb c (hop mark lo hi c) (omega arith), le-leb (hop mark lo hi c - c) hi (omega arith), le-leb lo (hop mark lo hi c - c) (omega arith), stepsWithin)
       (steps-hops r)
 
+  rises-cuts : (c : ℕ) → risesWithin c e (cutsUpTo mark lo hi e c) ≡ true
+  unfolding cutsUpTo
+  rises-cuts c = rises-hops (up-to (hop mark lo hi) e (hop-rises mark lo hi positive order) c)
+
+  steps-cuts : (c : ℕ) → stepsWithin lo hi c (cutsUpTo mark lo hi e c) ≡ true
+  unfolding cutsUpTo
+  steps-cuts c = steps-hops (up-to (hop mark lo hi) e (hop-rises mark lo hi positive order) c)
+
   rises-after : {a : ℕ} {marks : List ℕ} → Marks mark e a marks → risesWithin a e (recordAfter mark lo hi e a marks .offsets) ≡ true
-  unfolding risesWithin recordAfter prepend cutsUpTo
+  unfolding risesWithin recordAfter prepend
   rises-after (none-left u) = refl
   rises-after {a} (then-mark b {l = marks} above inside m u r) =
       by-test (isMarker lo hi a b)
-      (λ t. ap (λ (x : Record). risesWithin a e (x .offsets)) (at-marker mark lo hi e a b marks t)
-      ∙ rises-on a e b (cutsUpTo mark lo hi e b) above inside
-      ∙ rises-hops (up-to (hop mark lo hi) e (hop-rises mark lo hi positive order) b))
-      (λ t. ap (λ (x : Record). risesWithin a e (x .offsets)) (no-marker mark lo hi e a b marks t)
-      ∙ rises-on a e b (recordAfter mark lo hi e b marks .offsets) above inside
-      ∙ rises-after r)
+      (λ t. rw (at-marker mark lo hi e a b marks t) (rises-on a e b (cutsUpTo mark lo hi e b) above inside ∙ rises-cuts b))
+      (λ t. rw (no-marker mark lo hi e a b marks t) (rises-on a e b (recordAfter mark lo hi e b marks .offsets) above inside ∙ rises-after r))
 
   rises-slow : {a : ℕ} {marks : List ℕ} → Marks mark e a marks → risesWithin a e (slowRecord mark lo hi e marks .offsets) ≡ true
   unfolding risesWithin slowRecord prepend
   rises-slow (none-left u) = refl
   rises-slow {a} (then-mark b {l = marks} above inside m u r) = rises-on a e b (recordAfter mark lo hi e b marks .offsets) above inside ∙ rises-after r
 
+  -- the marker of a record, and the steps from it on
+  fits : Record → Bool
+  fits r = fromMarker lo hi (r .marker) (r .offsets)
+
   -- an offset that is not the marker, before the others
-  fits-on : (i b : ℕ) (r : Record) → eqb b (r .marker) ≡ false → markerFits lo hi (suc i) (prepend b r) ≡ markerFits lo hi (suc i) r
-  unfolding markerFits fromMarker prepend isListed followers
-  fits-on i b r other = rw (other, isListed, followers)
+  fits-on : (b : ℕ) (r : Record) → eqb b (r .marker) ≡ false → fits (prepend b r) ≡ fits r
+  unfolding fits fromMarker prepend isListed followers
+  fits-on b r other = rw (other, isListed, followers)
 
-  fits-after : (i : ℕ) {a : ℕ} {marks : List ℕ} → Marks mark e a marks → markerFits lo hi (suc i) (recordAfter mark lo hi e a marks) ≡ true
-  unfolding markerFits fromMarker recordAfter isListed followers stepsWithin cutsUpTo
-  fits-after i (none-left u) = refl
-  fits-after i {a} (then-mark b {l = marks} above inside m u r) =
+  fits-after : {a : ℕ} {marks : List ℕ} → Marks mark e a marks → fits (recordAfter mark lo hi e a marks) ≡ true
+  unfolding fits fromMarker recordAfter isListed followers stepsWithin
+  fits-after (none-left u) = refl
+  fits-after {a} (then-mark b {l = marks} above inside m u r) =
       by-test (isMarker lo hi a b)
-      (λ t. ap (markerFits lo hi (suc i)) (at-marker mark lo hi e a b marks t)
-      ∙ rw (eq-eqb b b refl, isListed, followers) (rw or-true (steps-hops (up-to (hop mark lo hi) e (hop-rises mark lo hi positive order) b))))
-      (λ t. ap (markerFits lo hi (suc i)) (no-marker mark lo hi e a b marks t)
-      ∙ fits-on i b (recordAfter mark lo hi e b marks) (marker-later mark lo hi e b (omega arith) (omega arith) r)
-      ∙ fits-after i r)
+      (λ t. rw (at-marker mark lo hi e a b marks t, eq-eqb b b refl, isListed, followers, or-true) (steps-cuts b))
+      (λ t. rw (no-marker mark lo hi e a b marks t)
+      (fits-on b (recordAfter mark lo hi e b marks) (marker-later mark lo hi e b (omega arith) (omega arith) r) ∙ fits-after r))
 
-  fits-slow : (i : ℕ) {a : ℕ} {marks : List ℕ} → Marks mark e a marks → markerFits lo hi (suc i) (slowRecord mark lo hi e marks) ≡ true
-  unfolding markerFits fromMarker slowRecord isListed followers stepsWithin
-  fits-slow i (none-left u) = refl
-  fits-slow i {a} (then-mark b {l = marks} above inside m u r) =
-      fits-on i b (recordAfter mark lo hi e b marks) (marker-later mark lo hi e b (omega arith) (omega arith) r) ∙ fits-after i r
+  fits-slow : {a : ℕ} {marks : List ℕ} → Marks mark e a marks → fits (slowRecord mark lo hi e marks) ≡ true
+  unfolding fits fromMarker slowRecord isListed followers stepsWithin
+  fits-slow (none-left u) = refl
+  fits-slow (then-mark b {l = marks} above inside m u r) =
+      fits-on b (recordAfter mark lo hi e b marks) (marker-later mark lo hi e b (omega arith) (omega arith) r) ∙ fits-after r
 
 module _ (mark : ℕ → Bool) (lo hi : ℕ) (positive : 0 < lo) (order : lo ≤ hi) (size n : ℕ) (sized : 0 < size) where
   rises-record : (i : ℕ) → i < segments size n
       → risesWithin (segmentStart size i) (segmentEnd size n i) (segmentRecord mark lo hi size n i .offsets) ≡ true
-  unfolding segmentRecord cutsUpTo
+  unfolding segmentRecord
   rises-record zero h =
-      let e : ℕ = segmentEnd size n 0 in
       let start : segmentStart size 0 ≡ 0 = unfold segmentStart in zero-mul size in
-      rw start (rises-hops mark lo hi positive order e (up-to (hop mark lo hi) e (hop-rises mark lo hi positive order) 0))
+      rw start (rises-cuts mark lo hi positive order (segmentEnd size n 0) 0)
   rises-record (suc i) h =
       let e : ℕ = segmentEnd size n (suc i) in
       let span = spans size n sized (suc i) h in
       rises-slow mark lo hi positive order e (marks-in mark e (segmentStart size (suc i)) (omega arith))
 
   fits-record : (i : ℕ) → i < segments size n → markerFits lo hi i (segmentRecord mark lo hi size n i) ≡ true
-  unfolding segmentRecord markerFits cutsUpTo
-  fits-record zero h =
-      let e : ℕ = segmentEnd size n 0 in
-      steps-hops mark lo hi positive order e (up-to (hop mark lo hi) e (hop-rises mark lo hi positive order) 0)
+  unfolding segmentRecord markerFits
+  fits-record zero h = steps-cuts mark lo hi positive order (segmentEnd size n 0) 0
   fits-record (suc i) h =
       let e : ℕ = segmentEnd size n (suc i) in
       let span = spans size n sized (suc i) h in
-      fits-slow mark lo hi positive order e i (marks-in mark e (segmentStart size (suc i)) (omega arith))
+      unfold fits in fits-slow mark lo hi positive order e (marks-in mark e (segmentStart size (suc i)) (omega arith))
 
   sound : (i : ℕ) → i < segments size n → (bay : List ℕ) → Holds bay (segmentRecord mark lo hi size n i) → isSound lo hi size n i bay ≡ true
   unfolding isSound

@@ -14,7 +14,7 @@ use Rattle.walk.specs.Walk.{boardWalk}
 use Rattle.recording.specs.Records.{segmentOf}
 use Rattle.board.specs.Recording.{recordFits, recordAll}
 use Rattle.merged.proofs.Reading.{merged}
-use Rattle.merged.proofs.Accepted.{read-back}
+use Rattle.merged.proofs.ReadBack.{read-back}
 use Rattle.merged.proofs.Orders.{then-held}
 
 module _ (mark : ℕ → Bool) (s : Settings) (positive : 0 < s .minimum) (order : s .minimum ≤ s .maximum) (size n : ℕ) (sized : 0 < size) (width : ℕ) where

@@ -6,7 +6,7 @@ use native.Mathlib.Nat.{mul-le-mul-right, one-mul}
 use native.Mathlib.Omega.{arith}
 use lib.ListN.{length, take, drop, length-take, length-drop}
 use Rattle.laws.proofs.Cases.{by-lt}
-use Rattle.laws.proofs.Lent.{part-of-part}
+use Rattle.laws.proofs.Slices.{part-of-part}
 use Rattle.terms.specs.declared.Settings.{Settings}
 use Rattle.terms.proofs.Ranges.{Ranges}
 use Rattle.rule.specs.Rule.{cutsUpTo}

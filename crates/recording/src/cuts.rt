@@ -63,7 +63,7 @@ pub fn record_cuts(
     let mut next = next_hop(settings, stretch, (cut - base) as usize, leaving, pushed);
     while next <= stretch.len() {
         cut = base + next as u64;
-        puts::put(list, count, cut);
+        lists::put(list, count, cut);
         count += 1;
         next = next_hop(settings, stretch, next, leaving, pushed);
     }

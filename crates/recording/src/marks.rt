@@ -55,7 +55,7 @@ fn record_after(
             return Recorded { count, marker: 0 };
         }
         let offset = base + next.at as u64;
-        puts::put(list, count, offset);
+        lists::put(list, count, offset);
         count += 1;
         if is_marker(minimum, maximum, base + spot.at as u64, offset) {
             let made = Made { count, cut: offset };
@@ -93,6 +93,6 @@ pub fn record_marks(
             marker: 0,
         };
     }
-    puts::put(list, 0, base + first.at as u64);
+    lists::put(list, 0, base + first.at as u64);
     record_after(settings, stretch, base, first, list, leaving, pushed)
 }

@@ -1,14 +1,12 @@
 -- Walking a bay, all bays and the end of the log, as the code does it.
 use Prim.Native.Nat.{ℕ, zero, suc, _+_, _-_, _*_, _≤_, _<_, _^_}
 use mathlib.Core.Path.{_≡_, refl, sym, ap, ap₂, _∙_, subst}
-use mathlib.Core.Bool.{true, _&&_}
+use mathlib.Core.Bool.{true}
 use mathlib.Core.List.{List, [], _∷_, _++_, append-nil}
 use native.Mathlib.Numerals.{add-one}
 use native.Mathlib.Nat.{zero-add}
 use native.Mathlib.Omega.{arith}
-use lib.Dec.{eqb}
 use lib.ListN.{length, set}
-use Rattle.laws.proofs.Cases.{by-test}
 use Rattle.rule.specs.Rule.{lastOr, closing}
 use Rattle.rule.proofs.Hops.{still-open, already}
 use Rattle.cutting.specs.WholeLog.{writtenList}
@@ -17,40 +15,15 @@ use Rattle.bays.specs.declared.Verdict.the-variants.{Granted}
 use Rattle.puts.specs.declared.Made.{Made}
 use Rattle.bays.specs.Segments.{segments, segmentStart, segmentEnd}
 use Rattle.bays.specs.Bays.{Record, bayOf, isDone, offsetCount, recordIn, risesWithin}
-use Rattle.walk.specs.Walk.{forcedUpTo, readOffset, readAsMarks, bayCuts, baysCuts, lastCuts, walk, boardWalk}
+use Rattle.walk.specs.Walk.{forcedUpTo, readAsMarks, bayCuts, baysCuts, lastCuts, walk, boardWalk}
 use Rattle.puts.specs.Puts.{Puts}
 use Rattle.bays.specs.Judging.{baysJudged}
-use Rattle.laws.proofs.Last.{last-joined}
-use Rattle.walk.proofs.Offsets.{read-on, read-switch}
 use Rattle.bays.proofs.Ranges.{length-bay, reach, from-reach, to-reach, spans}
-use Rattle.walk.proofs.Rises.{risen, rises-wider}
+use Rattle.walk.proofs.Rises.{rises-wider}
 use Rattle.bays.proofs.Verdicts.{Judged, each-granted}
 use Rattle.puts.proofs.Putting.{puts-are, Underway, begin, more, one-more, ended, rest-is, all-made}
-use Rattle.laws.proofs.Sets.{sets-over}
-use Rattle.walk.proofs.Walks.{offset-last}
-
--- no cut passes the last offset
-rises-last : (l : List ℕ) (a e : ℕ) → a ≤ e → risesWithin a e l ≡ true → lastOr a l ≤ e
-unfolding lastOr
-rises-last [] a e h t = h
-rises-last (p ∷ l) a e h t = let r = risen a e p l t in rises-last l p e (r .1) (r .2)
-
-marks-last : (lo hi marker : ℕ) → 1 ≤ hi → (l : List ℕ) (c e : ℕ) → c ≤ e → risesWithin c e l ≡ true → lastOr c (readAsMarks lo hi marker c l) ≤ e
-unfolding lastOr readAsMarks
-marks-last lo hi marker positive [] c e h t = h
-marks-last lo hi marker positive (p ∷ l) c e h t =
-    let r = risen c e p l t in
-    let cut : ℕ = lastOr c (readOffset lo hi c p) in
-    let low : cut ≤ p = offset-last lo hi c p positive (r .0) in
-    let on : risesWithin cut e l ≡ true = rises-wider l p e cut e low (omega arith) (r .2) in
-    by-test (eqb cut p && eqb p marker)
-    (λ s. subst (λ x. lastOr c x ≤ e) (sym (read-switch lo hi c p marker l s)) (rw last-joined (rises-last l cut e (omega arith) on)))
-    (λ s. subst (λ x. lastOr c x ≤ e) (sym (read-on lo hi c p marker l s)) (rw last-joined (marks-last lo hi marker positive l cut e (omega arith) on)))
-
-pub bay-last : (lo hi i : ℕ) → 1 ≤ hi → (r : Record) (c e : ℕ) → c ≤ e → risesWithin c e (r .offsets) ≡ true → lastOr c (bayCuts lo hi i c r) ≤ e
-unfolding bayCuts
-bay-last lo hi zero positive r c e h t = rises-last (r .offsets) c e h t
-bay-last lo hi (suc i) positive r c e h t = marks-last lo hi (r .marker) positive (r .offsets) c e h t
+use Rattle.laws.proofs.Sets.{sets-written}
+use Rattle.walk.proofs.Lasts.{bay-last}
 
 -- segment 0, and any other
 module _ (lo hi c : ℕ) (r : Record) where
@@ -83,28 +56,26 @@ module _ (hi n : ℕ) (before forced : Made) (list₀ list : List ℕ) (ordered 
 -- all bays of a board that was judged
 module _ (s : Settings) (n size width : ℕ) (board : List ℕ) (sized : 0 < size) (positive : 1 ≤ s .maximum) (short : n ≤ 2 ^ 40)
     (fine : baysJudged s size width n board (segments size n) 0 ≡ Granted) where
-  pub judged-bay : (i : ℕ) → i < segments size n → Judged s size n i (bayOf width board i)
+  judged-bay : (i : ℕ) → i < segments size n → Judged s size n i (bayOf width board i)
   judged-bay i h = subst (λ j. Judged s size n j (bayOf width board j)) (zero-add i) (each-granted s size width n board (segments size n) 0 i h fine)
 
-  pub from-cut : (i c : ℕ) → i < segments size n → c ≤ reach size n i
+  from-cut : (i c : ℕ) → i < segments size n → c ≤ reach size n i
       → risesWithin c (segmentEnd size n i) (recordIn (bayOf width board i) .offsets) ≡ true
   from-cut i c h low =
       let start : segmentStart size i ≡ reach size n i = from-reach size n sized i h in
       rises-wider (recordIn (bayOf width board i) .offsets) (segmentStart size i) (segmentEnd size n i) c (segmentEnd size n i) (omega arith) (omega arith)
       (judged-bay i h .rises)
 
-  pub bay-ready : (i c : ℕ) → i < segments size n → c ≤ reach size n i → risesWithin c (2 ^ 40) (recordIn (bayOf width board i) .offsets) ≡ true
-  bay-ready i c h low =
-      let span = spans size n sized i h in
-      rises-wider (recordIn (bayOf width board i) .offsets) c (segmentEnd size n i) c (2 ^ 40) (omega arith) (omega arith) (from-cut i c h low)
-
   -- bay i is ready to be walked from the cut c
   pub ready : (i c : ℕ) → i < segments size n → c ≤ reach size n i → i * width + width ≤ length board → 2 ≤ width → (bay : List ℕ) → bay ≡ bayOf width board i
       → ((2 ≤ length bay) × (isDone bay ≡ true) × (offsetCount bay ≤ length bay - 2)) × (risesWithin c (2 ^ 40) (recordIn bay .offsets) ≡ true)
   ready i c h low fits wide bay is-bay =
       let j = judged-bay i h in
+      let span = spans size n sized i h in
       let long : 2 ≤ length (bayOf width board i) = rw (length-bay width board i fits) wide in
-      rw is-bay ((long, j .done, j .few), bay-ready i c h low)
+      let rising : risesWithin c (2 ^ 40) (recordIn (bayOf width board i) .offsets) ≡ true =
+      rises-wider (recordIn (bayOf width board i) .offsets) c (segmentEnd size n i) c (2 ^ 40) (omega arith) (omega arith) (from-cut i c h low) in
+      rw is-bay ((long, j .done, j .few), rising)
 
   pub low-after : (i c : ℕ) → i < segments size n → c ≤ reach size n i
       → lastOr c (bayCuts (s .minimum) (s .maximum) i c (recordIn (bayOf width board i))) ≤ reach size n (suc i)
@@ -174,4 +145,4 @@ module _ (s : Settings) (n size width : ℕ) (board : List ℕ) {made after : Ma
 
   pub walk-written : list′ ≡ writtenList (boardWalk s n size width board) list₀
   unfolding writtenList
-  walk-written = walked .kept ∙ sets-over list₀ (boardWalk s n size width board)
+  walk-written = walked .kept ∙ sets-written list₀ (boardWalk s n size width board)

@@ -1,4 +1,5 @@
 pub mod Offsets
 pub mod Rises
 pub mod Walks
+pub mod Lasts
 pub mod BayWalks

@@ -66,7 +66,7 @@ fn finish(list: &mut [u64], made: Made, n: u64, maximum: u64) -> Made
     if forced.cut >= n {
         return forced;
     }
-    puts::put(list, forced.count, n);
+    lists::put(list, forced.count, n);
     Made {
         count: forced.count + 1,
         cut: n,

@@ -16,7 +16,7 @@ pub fn force_cuts(list: &mut [u64], made: Made, last: u64, maximum: u64) -> Made
     let mut cut = made.cut;
     while last - cut >= maximum {
         cut += maximum;
-        puts::put(list, count, cut);
+        lists::put(list, count, cut);
         count += 1;
     }
     Made { count, cut }
@@ -31,7 +31,7 @@ fn read_offset(list: &mut [u64], made: Made, p: u64, minimum: u64, maximum: u64)
     if p - forced.cut < minimum {
         return forced;
     }
-    puts::put(list, forced.count, p);
+    lists::put(list, forced.count, p);
     Made {
         count: forced.count + 1,
         cut: p,
@@ -48,7 +48,7 @@ pub fn take_offsets(list: &mut [u64], made: Made, offsets: &[u64]) -> Made
     let mut k = 0;
     while k < offsets.len() {
         cut = offsets[k];
-        puts::put(list, count, cut);
+        lists::put(list, count, cut);
         count += 1;
         k += 1;
     }

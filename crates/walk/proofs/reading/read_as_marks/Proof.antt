@@ -8,7 +8,7 @@ use lib.ListN.{length, drop}
 use Rattle.bays.specs.Bays.{risesWithin}
 use Rattle.walk.specs.Walk.{readAsMarks}
 use Rattle.walk.proofs.Rises.{next-rises}
-use Rattle.laws.proofs.Lent.{rest-lent}
+use Rattle.laws.proofs.Slices.{rest-from}
 use Rattle.walk.proofs.Walks.{marks-on, marks-switch, still-rises, marks-end}
 use Rattle.puts.proofs.Putting.{Underway, begin, same-long, rest-is, ended, all-made, puts-long}
 use Rattle.walk.proofs.reading.read_as_marks.Statement.{statement}
@@ -48,13 +48,13 @@ part-take-offsets-end : tie.Need-part-take-offsets-end Inv-loop μ-loop
 part-take-offsets-end c = search needs
 
 take-offsets-requires : tie.Need-take-offsets-requires Inv-loop μ-loop
-take-offsets-requires c κs = (c .before .before .before .before .before .before .before .read-offset .ensures .behind, rw rest-lent (still-rises _ _ _ _ _ (c .before .before .before .before .before .before .before .before .before .before .loop-test .taken) (c .before .before .before .before .before .before .before .before .before .before .before .before .before .before .pre .2) (c .before .before .before .before .before .before .before .read-offset .ensures) (c .before .before .before .before .before .before .before .before .before .before .before .loop .inv .1 .1) (c .before .before .before .before .before .before .before .before .before .before .before .loop .inv .1 .0)))
+take-offsets-requires c κs = (c .before .before .before .before .before .before .before .read-offset .ensures .behind, rw rest-from (still-rises _ _ _ _ _ (c .before .before .before .before .before .before .before .before .before .before .loop-test .taken) (c .before .before .before .before .before .before .before .before .before .before .before .before .before .before .pre .2) (c .before .before .before .before .before .before .before .read-offset .ensures) (c .before .before .before .before .before .before .before .before .before .before .before .loop .inv .1 .1) (c .before .before .before .before .before .before .before .before .before .before .before .loop .inv .1 .0)))
 
 same-length : tie.Need-same-length Inv-loop μ-loop
-same-length c = puts-long (all-made (marks-switch _ _ _ _ _ (c .before .before .before .before .before .before .before .before .before .before .before .before .before .loop-test .taken) (c .before .before .before .before .before .before .before .before .before .before .before .before .before .before .before .before .before .pre .2) (c .before .before .before .before .before .before .before .before .before .before .read-offset .ensures) (c .before .before .before .before .before .before .before .before .before .before .before .before .before .before .loop .inv .1 .1) (c .before .before .before .before .before .before .if1 .taken) (c .before .before .before .before .before .if2 .taken)) (rest-lent (c .before .before .before .before .before .before .before .before .before .before .before .before .before .before .before .before .before .args .offsets .now) (c .before .before .before .before .before .before .before .before .before .before .before .before .before .before .loop .k + 1)) (c .before .before .take-offsets .ensures))
+same-length c = puts-long (all-made (marks-switch _ _ _ _ _ (c .before .before .before .before .before .before .before .before .before .before .before .before .before .loop-test .taken) (c .before .before .before .before .before .before .before .before .before .before .before .before .before .before .before .before .before .pre .2) (c .before .before .before .before .before .before .before .before .before .before .read-offset .ensures) (c .before .before .before .before .before .before .before .before .before .before .before .before .before .before .loop .inv .1 .1) (c .before .before .before .before .before .before .if1 .taken) (c .before .before .before .before .before .if2 .taken)) (rest-from (c .before .before .before .before .before .before .before .before .before .before .before .before .before .before .before .before .before .args .offsets .now) (c .before .before .before .before .before .before .before .before .before .before .before .before .before .before .loop .k + 1)) (c .before .before .take-offsets .ensures))
 
 returns : tie.Need-returns Inv-loop μ-loop
-returns c = all-made (marks-switch _ _ _ _ _ (c .before .before .before .before .before .before .before .before .before .before .before .before .before .loop-test .taken) (c .before .before .before .before .before .before .before .before .before .before .before .before .before .before .before .before .before .pre .2) (c .before .before .before .before .before .before .before .before .before .before .read-offset .ensures) (c .before .before .before .before .before .before .before .before .before .before .before .before .before .before .loop .inv .1 .1) (c .before .before .before .before .before .before .if1 .taken) (c .before .before .before .before .before .if2 .taken)) (rest-lent (c .before .before .before .before .before .before .before .before .before .before .before .before .before .before .before .before .before .args .offsets .now) (c .before .before .before .before .before .before .before .before .before .before .before .before .before .before .loop .k + 1)) (c .before .before .take-offsets .ensures)
+returns c = all-made (marks-switch _ _ _ _ _ (c .before .before .before .before .before .before .before .before .before .before .before .before .before .loop-test .taken) (c .before .before .before .before .before .before .before .before .before .before .before .before .before .before .before .before .before .pre .2) (c .before .before .before .before .before .before .before .before .before .before .read-offset .ensures) (c .before .before .before .before .before .before .before .before .before .before .before .before .before .before .loop .inv .1 .1) (c .before .before .before .before .before .before .if1 .taken) (c .before .before .before .before .before .if2 .taken)) (rest-from (c .before .before .before .before .before .before .before .before .before .before .before .before .before .before .before .before .before .args .offsets .now) (c .before .before .before .before .before .before .before .before .before .before .before .before .before .before .loop .k + 1)) (c .before .before .take-offsets .ensures)
 
 loop-less : tie.Need-loop-less Inv-loop μ-loop
 loop-less c = omega (arith, c .before .before .before .before .before .before .before .before .loop-test .taken)

@@ -1,9 +1,9 @@
--- `puts::put` meets its contract: a place past the end is not there to be set.
+-- `lists::put` meets its contract: a place past the end is not there to be set.
 use borrow.Author.Needs.{needs}
 use mathlib.Core.Path.{sym}
 use lib.Seq.{set-out}
-use Rattle.puts.proofs.put.Statement.{statement}
-use Rattle.puts.proofs.put.Tie as tie
+use Rattle.lists.proofs.put.Statement.{statement}
+use Rattle.lists.proofs.put.Tie as tie
 
 mul-list : tie.Need-mul-list
 mul-list c = search needs

@@ -1,4 +1,4 @@
--- A part of a list as the code lends it.
+-- Parts of a slice, as the code lends them.
 use Prim.Native.Nat.{ℕ, _+_, _-_, _≤_}
 use mathlib.Core.Path.{_≡_, ap, _∙_}
 use mathlib.Core.List.{List}
@@ -6,9 +6,9 @@ use native.Mathlib.Omega.{arith}
 use lib.ListN.{length, take, drop, length-drop}
 use lib.Seq.{take-all, take-add, take-take, drop-drop, drop-at, length-take-le}
 
--- from a place on
-pub rest-lent : (l : List ℕ) (k : ℕ) → take (length l - k) (drop k l) ≡ drop k l
-rest-lent l k = take-all (length l - k) (drop k l) (rw length-drop (omega arith))
+-- a slice from place k on is all that follows
+pub rest-from : (l : List ℕ) (k : ℕ) → take (length l - k) (drop k l) ≡ drop k l
+rest-from l k = take-all (length l - k) (drop k l) (rw length-drop (omega arith))
 
 -- so many entries from a place on
 pub part-lent : (l : List ℕ) (a w : ℕ) → take (a + w - a) (drop a l) ≡ take w (drop a l)
