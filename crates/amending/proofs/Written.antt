@@ -9,7 +9,7 @@ use lib.ListN.{length, getD, take, drop, length-append, length-map, length-take}
 use lib.Seq.{sets, length-sets, length-take-le, getD-take, getD-drop}
 use borrow.Author.Tests.{le-leb, lt-leb}
 use Rattle.laws.specs.Last.{lastOr}
-use Rattle.laws.proofs.Sets.{sets-joined, sets-over}
+use Rattle.laws.proofs.Sets.{sets-joined, sets-written}
 use Rattle.terms.specs.declared.Refusal.the-variants.{ListFull}
 use Rattle.lists.specs.WellFormed.{wellFormed, lengthOf}
 use Rattle.lists.proofs.Reaching.{reaches, reaches-long, entries-low, entries-rise}
@@ -65,7 +65,7 @@ unmoved (x ∷ l) = ap₂ _∷_ (omega arith) (unmoved l)
 three-written : (l f r b : List ℕ) → sets (sets (sets l 0 f) (length f) r) (length f + length r) b ≡ writtenList (f ++ (r ++ b)) l
 unfolding writtenList
 three-written l f r b =
-    sym (rw zero-add at (sets-joined l 0 f (r ++ b) ∙ sets-joined (sets l 0 f) (0 + length f) r b)) ∙ sets-over l (f ++ (r ++ b))
+    sym (rw zero-add at (sets-joined l 0 f (r ++ b) ∙ sets-joined (sets l 0 f) (0 + length f) r b)) ∙ sets-written l (f ++ (r ++ b))
 
 -- once the three parts are written, as far as the list goes
 pub record Done (newCuts : ℕ → List ℕ) (old : List ℕ) (edit : Edit) (list₀ list : List ℕ) (kept count left : ℕ) : Type 0 where

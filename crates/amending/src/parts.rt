@@ -38,7 +38,7 @@ pub fn put_moved(part: &[u64], edit: Edit, list: &mut [u64], at: u64)
 {
     let mut i = 0;
     while i < part.len() {
-        puts::put(list, at + i as u64, part[i] + edit.added - edit.removed);
+        lists::put(list, at + i as u64, part[i] + edit.added - edit.removed);
         i += 1;
     }
 }

@@ -41,7 +41,7 @@ pub fn recut(
         if found.met {
             return Recutting { count, passed };
         }
-        puts::put(list, kept + count, cut as u64);
+        lists::put(list, kept + count, cut as u64);
         count += 1;
     }
     Recutting {

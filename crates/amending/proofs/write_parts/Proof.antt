@@ -5,7 +5,7 @@ use lib.ListN.{length, drop, length-take}
 use lib.Seq.{length-take-le}
 use mathlib.Core.Path.{sym}
 use borrow.Author.Needs.{needs}
-use Rattle.laws.proofs.Lent.{rest-lent}
+use Rattle.laws.proofs.Slices.{rest-from}
 use Rattle.amending.specs.Answers.{newCutsOf}
 use Rattle.amending.proofs.Front.{count-fits}
 use Rattle.amending.proofs.Looking.{ascends-after}
@@ -23,7 +23,7 @@ kept-fits c = omega (arith, c .front-count .ensures, count-fits (c .before .befo
 
 -- once the back is written
 done : (c : tie.After-put-moved2) → Done (newCutsOf (c .before .before .before .before .before .before .before .before .before .before .before .before .before .before .before .before .before .before .before .args .settings) (c .before .before .before .before .before .before .before .before .before .before .before .before .before .before .before .before .before .before .before .args .log .now)) (c .before .before .before .before .before .before .before .before .before .before .before .before .before .before .before .before .before .before .before .args .old .now) (c .before .before .before .before .before .before .before .before .before .before .before .before .before .before .before .before .before .before .before .args .edit) (c .before .before .before .before .before .before .before .before .before .before .before .before .before .before .before .before .before .before .before .args .list .now) (c .put-moved2 .last .1 .1 .0) (c .before .before .before .before .before .before .before .before .before .before .before .before .before .before .before .front-count .result) (c .before .before .before .before .before .recut .result .count) (length (drop (c .before .before .before .before .before .recut .result .passed) (drop (c .before .before .before .before .before .before .before .before .before .before .before .before .before .before .before .front-count .result) (c .before .before .before .before .before .before .before .before .before .before .before .before .before .before .before .before .before .before .before .args .old .now))))
-done c = parts-done _ _ _ _ (c .before .before .before .before .before .before .before .before .before .before .before .before .before .before .before .front-count .ensures) (rw (c .before .before .before .before .before .before .before .before .before .before .before .before .before .nothing .ensures) at (c .before .before .before .before .before .before .before .before .before .before .before .put-moved .ensures)) (c .before .before .before .before .before .before .before .before .last-of .ensures) (rw rest-lent at (c .before .before .before .before .before .recut .ensures)) (rw (rest-lent, rest-lent) at (c .put-moved2 .ensures))
+done c = parts-done _ _ _ _ (c .before .before .before .before .before .before .before .before .before .before .before .before .before .before .before .front-count .ensures) (rw (c .before .before .before .before .before .before .before .before .before .before .before .before .before .nothing .ensures) at (c .before .before .before .before .before .before .before .before .before .before .before .put-moved .ensures)) (c .before .before .before .before .before .before .before .before .last-of .ensures) (rw rest-from at (c .before .before .before .before .before .recut .ensures)) (rw (rest-from, rest-from) at (c .put-moved2 .ensures))
 
 front-count-requires : tie.Need-front-count-requires
 front-count-requires c κs = omega (arith, fine (c .before .before .before) .place-low)
@@ -53,7 +53,7 @@ part-past-end : tie.Need-part-past-end
 part-past-end c = search needs
 
 recut-requires : tie.Need-recut-requires
-recut-requires c κs = ((c .before .before .before .before .before .before .before .before .before .before .before .before .before .pre .0 .0, rw rest-lent (ascends-after (c .before .before .before .before .before .before .before .before .before .front-count .result) (c .before .before .before .before .before .before .before .before .before .before .before .before .before .args .old .now) (fine (c .before .before .before .before .before .before .before .before .before .before .before .before .before) .rises))), (omega (arith, fine (c .before .before .before .before .before .before .before .before .before .before .before .before .before) .place-low), omega (arith, fine (c .before .before .before .before .before .before .before .before .before .before .before .before .before) .taken-low, c .before .before .before .before .before .before .before .before .before .before .before .before .before .pre .1 .1), omega (arith, kept-fits (c .before .before .before .before .before .before .before .before .before), fine (c .before .before .before .before .before .before .before .before .before .before .before .before .before) .few, c .before .before .before .before .before .before .before .before .before .before .before .before .before .pre .1 .1)))
+recut-requires c κs = ((c .before .before .before .before .before .before .before .before .before .before .before .before .before .pre .0 .0, rw rest-from (ascends-after (c .before .before .before .before .before .before .before .before .before .front-count .result) (c .before .before .before .before .before .before .before .before .before .before .before .before .before .args .old .now) (fine (c .before .before .before .before .before .before .before .before .before .before .before .before .before) .rises))), (omega (arith, fine (c .before .before .before .before .before .before .before .before .before .before .before .before .before) .place-low), omega (arith, fine (c .before .before .before .before .before .before .before .before .before .before .before .before .before) .taken-low, c .before .before .before .before .before .before .before .before .before .before .before .before .before .pre .1 .1), omega (arith, kept-fits (c .before .before .before .before .before .before .before .before .before), fine (c .before .before .before .before .before .before .before .before .before .before .before .before .before) .few, c .before .before .before .before .before .before .before .before .before .before .before .before .before .pre .1 .1)))
 
 mul-back : tie.Need-mul-back
 mul-back c = search needs
@@ -71,7 +71,7 @@ add-at : tie.Need-add-at
 add-at c = omega (arith, kept-fits (c .before .before .before .before .before .before .before .before .before .before .before .before .before), fine (c .before .before .before .before .before .before .before .before .before .before .before .before .before .before .before .before .before) .few, c .before .before .before .recut .ensures .few, c .before .before .before .before .before .before .before .before .before .before .before .before .before .before .before .before .before .pre .1 .1)
 
 put-moved-requires-2 : tie.Need-put-moved-requires-2
-put-moved-requires-2 c κs = (omega (arith, kept-fits (c .before .before .before .before .before .before .before .before .before .before .before .before .before .before), fine (c .before .before .before .before .before .before .before .before .before .before .before .before .before .before .before .before .before .before) .few, c .before .before .before .before .recut .ensures .few, c .before .before .before .before .before .before .before .before .before .before .before .before .before .before .before .before .before .before .pre .1 .1), rw (rest-lent, rest-lent) (back-movable (fine (c .before .before .before .before .before .before .before .before .before .before .before .before .before .before .before .before .before .before)) (c .before .before .before .before .before .before .before .before .before .before .before .before .before .before .front-count .result) (c .before .before .before .before .recut .result .passed) (rw rest-lent at (c .before .before .before .before .recut .ensures) .movable)))
+put-moved-requires-2 c κs = (omega (arith, kept-fits (c .before .before .before .before .before .before .before .before .before .before .before .before .before .before), fine (c .before .before .before .before .before .before .before .before .before .before .before .before .before .before .before .before .before .before) .few, c .before .before .before .before .recut .ensures .few, c .before .before .before .before .before .before .before .before .before .before .before .before .before .before .before .before .before .before .pre .1 .1), rw (rest-from, rest-from) (back-movable (fine (c .before .before .before .before .before .before .before .before .before .before .before .before .before .before .before .before .before .before)) (c .before .before .before .before .before .before .before .before .before .before .before .before .before .before .front-count .result) (c .before .before .before .before .recut .result .passed) (rw rest-from at (c .before .before .before .before .recut .ensures) .movable)))
 
 add-if1 : tie.Need-add-if1
 add-if1 c = omega (arith, kept-fits (c .before .before .before .before .before .before .before .before .before .before .before .before .before .before .before .before .before), fine (c .before .before .before .before .before .before .before .before .before .before .before .before .before .before .before .before .before .before .before .before .before) .few, c .before .before .before .before .before .before .before .recut .ensures .few, c .before .before .before .before .before .before .before .before .before .before .before .before .before .before .before .before .before .before .before .before .before .pre .1 .1)
@@ -80,13 +80,13 @@ same-length : tie.Need-same-length
 same-length c = search needs
 
 returns : tie.Need-returns
-returns c = parts-full (done (c .before .before .before)) (rw (rest-lent, rest-lent) at (c .if1 .taken))
+returns c = parts-full (done (c .before .before .before)) (rw (rest-from, rest-from) at (c .if1 .taken))
 
 same-length-2 : tie.Need-same-length-2
 same-length-2 c = search needs
 
 returns-2 : tie.Need-returns-2
-returns-2 c = rw (rest-lent, rest-lent) (parts-fit (done (c .before .before .before)) (rw (rest-lent, rest-lent) at (c .if1 .left)))
+returns-2 c = rw (rest-from, rest-from) (parts-fit (done (c .before .before .before)) (rw (rest-from, rest-from) at (c .if1 .left)))
 
 pub write-parts-spec : {M : Type 1} → statement M
 write-parts-spec =

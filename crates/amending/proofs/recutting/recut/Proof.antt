@@ -3,7 +3,7 @@ use Prim.Native.Nat.{_-_}
 use native.Mathlib.Omega.{arith}
 use lib.ListN.{length}
 use borrow.Author.Needs.{needs}
-use Rattle.laws.proofs.Lent.{rest-lent}
+use Rattle.laws.proofs.Slices.{rest-from}
 use Rattle.rule.specs.Rule.{cutsFrom}
 use Rattle.rule.proofs.Chain.{Rising}
 use Rattle.cutting.specs.Marks.{nextCut}
@@ -48,7 +48,7 @@ part-look-end : tie.Need-part-look-end Inv-loop μ-loop
 part-look-end c = search needs
 
 look-requires : tie.Need-look-requires Inv-loop μ-loop
-look-requires c κs = (rw rest-lent (ascends-after (c .before .before .before .before .before .loop .passed) (c .before .before .before .before .before .before .before .before .before .before .before .args .past .now) (c .before .before .before .before .before .before .before .before .before .before .before .pre .0 .1)), (c .before .before .before .before .before .before .before .before .before .before .before .pre .1 .0, omega (arith, rising (c .before .before .before .before .before .before .before .before .before .before .before) .within _ (c .before .before .before .before .loop-test .taken), c .before .next-cut .ensures, c .before .before .before .before .before .before .before .before .before .before .before .pre .1 .1)))
+look-requires c κs = (rw rest-from (ascends-after (c .before .before .before .before .before .loop .passed) (c .before .before .before .before .before .before .before .before .before .before .before .args .past .now) (c .before .before .before .before .before .before .before .before .before .before .before .pre .0 .1)), (c .before .before .before .before .before .before .before .before .before .before .before .pre .1 .0, omega (arith, rising (c .before .before .before .before .before .before .before .before .before .before .before) .within _ (c .before .before .before .before .loop-test .taken), c .before .next-cut .ensures, c .before .before .before .before .before .before .before .before .before .before .before .pre .1 .1)))
 
 add-passed : tie.Need-add-passed Inv-loop μ-loop
 add-passed c = search needs
@@ -58,7 +58,7 @@ same-length c = same-room (c .before .before .before .before .before .before .be
 
 returns : tie.Need-returns Inv-loop μ-loop
 unfolding cutsFrom
-returns c = recut-met (c .before .before .before .before .before .before .before .before .loop .inv) (rising (c .before .before .before .before .before .before .before .before .before .before .before .before .before .before)) (c .before .before .before .before .before .before .before .loop-test .taken) _ (c .before .before .before .before .next-cut .ensures) (rw rest-lent at (c .before .before .look .ensures)) (c .before .before .before .before .before .before .before .before .before .before .before .before .before .before .pre .0 .1) (c .if1 .taken)
+returns c = recut-met (c .before .before .before .before .before .before .before .before .loop .inv) (rising (c .before .before .before .before .before .before .before .before .before .before .before .before .before .before)) (c .before .before .before .before .before .before .before .loop-test .taken) _ (c .before .before .before .before .next-cut .ensures) (rw rest-from at (c .before .before .look .ensures)) (c .before .before .before .before .before .before .before .before .before .before .before .before .before .before .pre .0 .1) (c .if1 .taken)
 
 add-put : tie.Need-add-put Inv-loop μ-loop
 add-put c = search needs
@@ -73,7 +73,7 @@ loop-less : tie.Need-loop-less Inv-loop μ-loop
 loop-less c = omega (arith, rising (c .before .before .before .before .before .before .before .before .before .before .before .before .before .before .before .before .before .before) .rises _ (c .before .before .before .before .before .before .before .before .before .before .before .loop-test .taken), c .before .before .before .before .before .before .before .before .next-cut .ensures, c .before .before .before .before .before .before .before .before .before .before .before .loop-test .taken)
 
 loop-again : tie.Need-loop-again Inv-loop μ-loop
-loop-again c = rw (c .before .before .put .ensures) (recut-more (c .before .before .before .before .before .before .before .before .before .before .before .before .loop .inv) (rising (c .before .before .before .before .before .before .before .before .before .before .before .before .before .before .before .before .before .before)) (c .before .before .before .before .before .before .before .before .before .before .before .loop-test .taken) _ (c .before .before .before .before .before .before .before .before .next-cut .ensures) (rw rest-lent at (c .before .before .before .before .before .before .look .ensures)) (c .before .before .before .before .if1 .left))
+loop-again c = rw (c .before .before .put .ensures) (recut-more (c .before .before .before .before .before .before .before .before .before .before .before .before .loop .inv) (rising (c .before .before .before .before .before .before .before .before .before .before .before .before .before .before .before .before .before .before)) (c .before .before .before .before .before .before .before .before .before .before .before .loop-test .taken) _ (c .before .before .before .before .before .before .before .before .next-cut .ensures) (rw rest-from at (c .before .before .before .before .before .before .look .ensures)) (c .before .before .before .before .if1 .left))
 
 same-length-2 : tie.Need-same-length-2 Inv-loop μ-loop
 same-length-2 c = same-room (c .before .loop .inv)
