@@ -1,133 +1,83 @@
--- Looking for the meeting with one pointer that climbs a rising list: what each way out of a look tells.
-use Prim.Native.Nat.{ℕ, zero, suc, _+_, _-_, _≤_, _<_}
+-- Looking for the meeting in a rising list: what each way out of a look tells.
+use Prim.Native.Nat.{ℕ, suc, _+_, _-_, _≤_, _<_}
 use mathlib.Core.Path.{_≡_, refl, sym, ap, _∙_, subst}
-use mathlib.Core.Bool.{Bool, true, false, _&&_}
-use mathlib.Core.List.{List, [], _∷_, _++_, append-nil}
+use mathlib.Core.Bool.{Bool, true, false, not}
+use mathlib.Core.List.{List, _∷_}
 use native.Mathlib.Omega.{arith}
-use lib.Dec.{leb}
-use lib.ListN.{length, getD, drop, length-append, length-drop, drop-of-length-le}
-use lib.Seq.{drop-cons, drop-drop, drop-append-seam, drop-nil}
-use borrow.Author.Tests.{le-leb, lt-leb, leb-true, leb-false, eq-eqb, ne-eqb}
-use Rattle.laws.proofs.Cases.{by-lt}
+use lib.Dec.{leb, eqb}
+use lib.ListN.{length, getD, drop, length-append, length-drop}
+use lib.Seq.{drop-cons, getD-drop}
+use borrow.Author.Tests.{le-leb, lt-leb, leb-true, leb-false, eqb-true, eqb-false, eq-eqb, ne-eqb}
+use Rattle.laws.proofs.Cases.{by-lt, by-test, clash}
 use Rattle.lists.specs.WellFormed.{isEmpty}
+use Rattle.amending.specs.declared.edits.Edit.{Edit}
 use Rattle.amending.specs.Parts.{before, since, wasAt, meets}
-use Rattle.amending.specs.Told.{Each, none, and-each}
-use Rattle.amending.specs.Inner.{Ascends, nothing-more, higher, Looked}
-use Rattle.amending.proofs.Split.{Split, here, split, joined, heads, since-is}
-use Rattle.amending.proofs.Told.{each-so, each-before, ascends-above}
+use Rattle.amending.specs.Inner.{Ascends, Looked}
+use Rattle.amending.proofs.Split.{Split, here, split, joined, left-over, heads, since-is, since-later, since-none}
 
--- entries that fail a test are skipped
-pub since-skips : (test : ℕ → Bool) {p : List ℕ} (r : List ℕ) → Each (λ x. test x ≡ false) p → since test (p ++ r) ≡ since test r
-unfolding since
-since-skips test r none = refl
-since-skips test r (and-each e rest) = rw (e, since) (since-skips test r rest)
+not-there : (edit : Edit) (t x : ℕ) → (x + edit .added ≡ t + edit .removed → ⊥) → wasAt edit t x ≡ false
+unfolding wasAt
+not-there edit t x other = ne-eqb _ _ other
 
-pub since-none : (test : ℕ → Bool) {l : List ℕ} → Each (λ x. test x ≡ false) l → since test l ≡ []
-since-none test {l} each = ap (since test) (sym (append-nil l)) ∙ since-skips test [] each ∙ (unfold since in refl)
+is-there : (edit : Edit) (t x : ℕ) → x + edit .added ≡ t + edit .removed → wasAt edit t x ≡ true
+unfolding wasAt
+is-there edit t x is = eq-eqb _ _ is
 
--- where climbing stops, the entries from the first that passes the test are left
-pub climbed : (test : ℕ → Bool) (l : List ℕ) (k r : ℕ) → r ≡ k + length (before test (drop k l)) → drop r l ≡ since test (drop k l)
-climbed test l k r e =
-    ap (λ j. drop j l) e ∙ sym (drop-drop (length (before test (drop k l))) k l)
-    ∙ ap (drop (length (before test (drop k l)))) (sym (joined (split test (drop k l)))) ∙ drop-append-seam (before test (drop k l)) (since test (drop k l))
-
-pub climbed-within : (test : ℕ → Bool) (l : List ℕ) (k r : ℕ) → k ≤ length l → r ≡ k + length (before test (drop k l)) → r ≤ length l
-climbed-within test l k r h e =
-    let parts : length (before test (drop k l)) + length (since test (drop k l)) ≡ length l - k =
-    sym (length-append (before test (drop k l)) (since test (drop k l))) ∙ ap length (joined (split test (drop k l))) ∙ length-drop k l in
-    omega arith
-
-pub ascends-after : {b x : ℕ} {k : List ℕ} (l : List ℕ) (r : ℕ) → Ascends b l → drop r l ≡ x ∷ k → Ascends x k
-ascends-after [] r nothing-more is = absurd (let z : _≡_ {A = ℕ} 0 1 = cc (drop-nil {A = ℕ} r) in omega arith)
-ascends-after {x = x} {k = k} (y ∷ l) zero (higher up rest) is =
-    let head : y ≡ x = cc in
-    let tail : l ≡ k = cc in
-    rw (← head, ← tail) rest
-ascends-after (y ∷ l) (suc r) (higher up rest) is = ascends-after l r rest is
-
--- the place of t in the old log, where the change's end is behind it
-pub place-of : (s d e t : ℕ) → s + e ≤ t → t - e + d + e ≡ t + d
-place-of s d e t h = omega arith
+pub ascends-after : (k : ℕ) (l : List ℕ) → Ascends l → Ascends (drop k l)
+ascends-after k l rises i j h fits =
+    rw (getD-drop, getD-drop) (rises (k + i) (k + j) (omega arith) (omega (arith, length-drop k l)))
 
 -- below the change's end nothing meets
-pub look-early : (s d e t : ℕ) (old : List ℕ) (from : ℕ) → from ≤ length old → t < s + e → Looked s d e t old from from false
+pub look-early : (edit : Edit) (t : ℕ) (left : List ℕ) → t < edit .at + edit .added → Looked edit t left 0 false
 unfolding meets
-look-early s d e t old from within early =
-    record {
-      within = within;
-      told = rw (lt-leb (s + e) t early);
-      onward = λ is. absurd (let z : _≡_ {A = ℕ} 0 1 = cc in omega arith);
-      passed = λ t′ h. refl;
-    }
+look-early edit t left early =
+    record { within = omega arith; told = rw (lt-leb _ t early); onward = λ is. absurd (clash (sym is)); behind = λ t′ h. refl }
 
-module _ (s d e t p : ℕ) (place : p + e ≡ t + d) (old : List ℕ) (from : ℕ) (low : from ≤ length old) where
-  -- an old cut below the place of t is met by neither t nor a later new cut, one above it not by t
-  below : (t′ x : ℕ) → t ≤ t′ → x < p → wasAt d e t′ x ≡ false
-  unfolding wasAt
-  below t′ x h k = ne-eqb (x + e) (t′ + d) (λ is. omega arith)
+-- past it, t has a place in the old log
+pub place-of : (edit : Edit) (t : ℕ) → edit .at + edit .added ≤ t → t - edit .added + edit .removed + edit .added ≡ t + edit .removed
+place-of edit t far = omega arith
 
-  above : (x : ℕ) → p < x → wasAt d e t x ≡ false
-  unfolding wasAt
-  above x h = ne-eqb (x + e) (t + d) (λ is. omega arith)
+-- p is that place, and r how many old cuts are below it
+module _ (edit : Edit) (t p : ℕ) (far : edit .at + edit .added ≤ t) (place : p + edit .added ≡ t + edit .removed) (left : List ℕ)
+    (r : ℕ) (stops : r ≡ length (before (leb p) left)) where
+  remains : drop r left ≡ since (leb p) left
+  remains = ap (λ k. drop k left) stops ∙ left-over (split (leb p) left)
 
-  skipped : (t′ : ℕ) → t ≤ t′ → since (wasAt d e t′) (drop from old) ≡ since (wasAt d e t′) (since (leb p) (drop from old))
+  -- an old cut below p is met by neither t nor a later new cut
+  skipped : (t′ : ℕ) → t ≤ t′ → since (wasAt edit t′) left ≡ since (wasAt edit t′) (drop r left)
   skipped t′ h =
-      let parts = split (leb p) (drop from old) in
-      ap (since (wasAt d e t′)) (sym (joined parts))
-      ∙ since-skips (wasAt d e t′) (since (leb p) (drop from old)) (each-so (λ x k. below t′ x h (leb-false p x k)) (each-before parts))
+      since-later (wasAt edit t′) (λ x low. let below : x < p = leb-false p x low in not-there edit t′ x (λ is. omega arith)) (split (leb p) left)
+      ∙ ap (since (wasAt edit t′)) (sym remains)
 
-  module _ (r : ℕ) (stops : r ≡ from + length (before (leb p) (drop from old))) where
-    left : drop r old ≡ since (leb p) (drop from old)
-    left = climbed (leb p) old from r stops
+  looked : (met : Bool) → met ≡ meets edit left t → (met ≡ true → drop r left ≡ since (wasAt edit t) left) → Looked edit t left r met
+  looked met told onward = record { within = omega (arith, length-append (before (leb p) left) (since (leb p) left), ap length (joined (split (leb p) left))); told = told; onward = onward; behind = λ t′ h. skipped t′ (omega arith) }
 
-    looked : (met : Bool) → met ≡ meets s d e (drop from old) t → (met ≡ true → drop r old ≡ since (wasAt d e t) (drop from old))
-        → Looked s d e t old from r met
-    looked met told onward =
-        record {
-          within = climbed-within (leb p) old from r low stops;
-          told = told;
-          onward = onward;
-          passed = λ t′ h. skipped t′ (omega arith) ∙ ap (since (wasAt d e t′)) (sym left);
-        }
+  meets-by : {k : List ℕ} → since (wasAt edit t) left ≡ k → not (isEmpty k) ≡ meets edit left t
+  unfolding meets
+  meets-by e = rw (e, le-leb (edit .at + edit .added) t far)
 
-    unmet : since (wasAt d e t) (drop from old) ≡ [] → Looked s d e t old from r false
-    unmet nothing = looked false (unfold meets isEmpty in rw nothing (sym (and-false (leb (s + e) t)))) (λ is. absurd (never is))
-      where
-        and-false : (a : Bool) → a && false ≡ false
-        and-false true = refl
-        and-false false = refl
+  -- none of the old cuts from there on is p
+  unmet : ((i : ℕ) → i < length (drop r left) → getD (drop r left) i 0 ≡ p → ⊥) → Looked edit t left r false
+  unfolding isEmpty
+  unmet other =
+      looked false
+      (meets-by (skipped t (omega arith) ∙ since-none (wasAt edit t) (drop r left) (λ i h. not-there edit t (getD (drop r left) i 0) (λ is. other i h (omega arith)))))
+      (λ is. absurd (clash (sym is)))
 
-        never : false ≡ true → ⊥
-        never is = let z : _≡_ {A = ℕ} 0 1 = cc in omega arith
+  pub look-end : length left ≤ r → Looked edit t left r false
+  look-end h = unmet (λ i below. absurd (omega (arith, length-drop r left)))
 
-    pub look-end : r ≡ length old → Looked s d e t old from r false
-    look-end h = unmet (skipped t (omega arith) ∙ ap (since (wasAt d e t)) (sym left ∙ drop-of-length-le old {i = r} (omega arith)) ∙ (unfold since in refl))
-
-    module _ (other : r ≡ length old → ⊥) where
-      pub inside : r < length old
-      inside = by-lt r (length old) (λ h. h) (λ h. absurd (other (omega (arith, climbed-within (leb p) old from r low stops))))
-
-      at-place : drop r old ≡ getD old r 0 ∷ drop (suc r) old
-      at-place = drop-cons old r 0 inside
-
-      -- the old cut there is at or above the place of t
-      high : p ≤ getD old r 0
-      high = leb-true p (getD old r 0) (heads (subst (Split (leb p) (drop from old) (before (leb p) (drop from old))) (sym left ∙ at-place) (split (leb p) (drop from old))))
-
-      pub look-other : Ascends 0 old → (getD old r 0 ≡ p → ⊥) → Looked s d e t old from r false
-      look-other rises differs =
-          let up : p < getD old r 0 = by-lt p (getD old r 0) (λ h. h) (λ h. absurd (differs (omega (arith, high)))) in
-          let rest : Each (λ x. getD old r 0 < x) (drop (suc r) old) = ascends-above (ascends-after old r rises at-place) in
-          let all : Each (λ x. wasAt d e t x ≡ false) (getD old r 0 ∷ drop (suc r) old) =
-          and-each (above (getD old r 0) up) (each-so (λ x (h : getD old r 0 < x). above x (omega arith)) rest) in
-          unmet (skipped t (omega arith) ∙ ap (since (wasAt d e t)) (sym left ∙ at-place) ∙ since-none (wasAt d e t) all)
-
-      pub look-met : s + e ≤ t → getD old r 0 ≡ p → Looked s d e t old from r true
-      look-met far is =
-          let hit : wasAt d e t (getD old r 0) ≡ true = unfold wasAt in eq-eqb (getD old r 0 + e) (t + d) (omega arith) in
-          let found : since (wasAt d e t) (drop from old) ≡ drop r old =
-          skipped t (omega arith) ∙ ap (since (wasAt d e t)) (sym left ∙ at-place) ∙ since-is (wasAt d e t) (here hit) ∙ sym at-place in
-          looked true (sym (meets-found found)) (λ h. sym found)
-        where
-          meets-found : since (wasAt d e t) (drop from old) ≡ drop r old → meets s d e (drop from old) t ≡ true
-          meets-found found = unfold meets isEmpty in rw (le-leb (s + e) t far, found, at-place)
+  pub look-at : Ascends left → r < length left → Looked edit t left r (eqb (getD left r 0) p)
+  unfolding isEmpty
+  look-at rises inside =
+      let there : drop r left ≡ getD left r 0 ∷ drop (suc r) left = drop-cons left r 0 inside in
+      by-test (eqb (getD left r 0) p)
+      (λ e. let hit : wasAt edit t (getD left r 0) ≡ true = is-there edit t (getD left r 0) (omega (arith, eqb-true (getD left r 0) p e)) in
+      let found : since (wasAt edit t) left ≡ getD left r 0 ∷ drop (suc r) left =
+      skipped t (omega arith) ∙ ap (since (wasAt edit t)) there ∙ since-is (wasAt edit t) (here hit) in
+      rw e (looked true (meets-by found) (λ h. there ∙ sym found)))
+      (λ e. let high : p ≤ getD left r 0 =
+      leb-true p _ (heads (subst (Split (leb p) left (before (leb p) left)) (sym remains ∙ there) (split (leb p) left))) in
+      rw e (unmet (λ i below. rw getD-drop (λ is. by-lt 0 i
+      (λ h. omega (arith, rises r (r + i) (omega arith) (omega (arith, length-drop r left))))
+      (λ h. let same : r ≡ r + i = omega arith in eqb-false (getD left r 0) p e (ap (λ k. getD left k 0) same ∙ is))))))

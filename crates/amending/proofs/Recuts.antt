@@ -1,140 +1,116 @@
 -- The recut, cut by cut: what is known after each, and what that says where it stops.
-use Prim.Native.Nat.{ℕ, _+_, _-_, _≤_, _<_}
-use mathlib.Core.Path.{_≡_, refl, sym, ap, _∙_, subst}
+use Prim.Native.Nat.{ℕ, suc, _+_, _-_, _≤_, _<_, min}
+use mathlib.Core.Path.{_≡_, refl, sym, ap, _∙_}
 use mathlib.Core.Bool.{Bool, true, false}
-use mathlib.Core.List.{List, [], _∷_, _++_, map, append-nil, append-assoc}
+use mathlib.Core.List.{List, [], _∷_, map}
+use native.Mathlib.Nat.{add-zero}
 use native.Mathlib.Omega.{arith}
-use lib.ListN.{length, drop, set, length-append}
-use lib.Seq.{take-all, take-append-seam, drop-length}
-use borrow.Author.Tests.{lt-ltb, le-ltb}
-use Rattle.laws.specs.Over.{overFrom}
+use lib.ListN.{length, getD, drop, set, length-drop}
+use lib.Seq.{sets, length-sets, drop-length, drop-drop}
 use Rattle.laws.proofs.Cases.{by-lt}
-use Rattle.laws.proofs.Writing.{overFrom-none, overFrom-more, length-overFrom}
 use Rattle.rule.specs.Rule.{chain}
 use Rattle.rule.proofs.Chain.{Rising, opened, at-end}
+use Rattle.amending.specs.declared.edits.Edit.{Edit}
 use Rattle.amending.specs.Parts.{before, since, wasAt, meets, moved, backFrom}
-use Rattle.amending.specs.Told.{Each, none, and-each}
 use Rattle.amending.specs.Inner.{Ascends, Looked, Recutted}
 use Rattle.amending.proofs.Split.{nowhere, here, later, split, before-is, since-is}
 use Rattle.amending.proofs.Meets.{placed}
-use Rattle.amending.proofs.Told.{each-so, ascends-above}
 use Rattle.amending.proofs.Looking.{ascends-after}
 
-never : true ≡ false → ⊥
-never is = let z : _≡_ {A = ℕ} 0 1 = cc in omega arith
+-- the new cuts after c
+abbrev after : (ℕ → ℕ) → ℕ → ℕ → List ℕ
+after next n c = chain next n (n - c) c
 
--- the cuts from one on up to `cut` do not meet and are written after the kept entries; what was passed of the old list is met no more
-pub record Recuts (next : ℕ → ℕ) (n s d e kept : ℕ) (old list₀ list : List ℕ) (from cut place at : ℕ) : Type 0 where
-  pub cuts : List ℕ
-  pub still : before (meets s d e (drop kept old)) (chain next n (n - from) from) ≡ cuts ++ before (meets s d e (drop kept old)) (chain next n (n - cut) cut)
-  pub onward : since (meets s d e (drop kept old)) (chain next n (n - from) from) ≡ since (meets s d e (drop kept old)) (chain next n (n - cut) cut)
-  pub counted : at ≡ kept + length cuts
-  pub fits : at ≤ length list₀
-  pub holds : list ≡ overFrom kept cuts list₀
-  pub within : place ≤ length old
-  pub passed : (t : ℕ) → cut < t → since (wasAt d e t) (drop kept old) ≡ since (wasAt d e t) (drop place old)
+-- the cuts up to `cut` are counted, and to write those that are left up to the meeting leaves what writing all of them would have left; what
+-- was passed of the old cuts is met no more
+pub record Recuts (next : ℕ → ℕ) (n : ℕ) (edit : Edit) (past : List ℕ) (kept : ℕ) (list₀ : List ℕ) (from : ℕ) (list : List ℕ) (cut passed count : ℕ) : Type 0 where
+  pub counted : length (before (meets edit past) (after next n from)) ≡ count + length (before (meets edit past) (after next n cut))
+  pub written : sets list₀ kept (before (meets edit past) (after next n from)) ≡ sets list (kept + count) (before (meets edit past) (after next n cut))
+  pub onward : since (meets edit past) (after next n from) ≡ since (meets edit past) (after next n cut)
+  pub few : count ≤ min cut n
+  pub within : passed ≤ length past
+  pub behind : (t : ℕ) → cut < t → since (wasAt edit t) past ≡ since (wasAt edit t) (drop passed past)
 
-pub recuts-none : (next : ℕ → ℕ) (n s d e kept : ℕ) (old list : List ℕ) (from : ℕ) → kept ≤ length old → kept ≤ length list
-    → Recuts next n s d e kept old list list from from kept kept
-recuts-none next n s d e kept old list from h k =
+pub recuts-none : (next : ℕ → ℕ) (n : ℕ) (edit : Edit) (past : List ℕ) (kept : ℕ) (list : List ℕ) (from : ℕ)
+    → Recuts next n edit past kept list from list from 0 0
+recuts-none next n edit past kept list from =
     record {
-      cuts = [];
-      still = refl;
-      onward = refl;
       counted = omega arith;
-      fits = k;
-      holds = sym (overFrom-none kept list);
-      within = h;
-      passed = λ t up. refl;
+      written = ap (λ k. sets list k (before (meets edit past) (after next n from))) (sym (add-zero kept));
+      onward = refl;
+      few = omega arith;
+      within = omega arith;
+      behind = λ t up. refl;
     }
 
-module _ {next : ℕ → ℕ} {n s d e kept : ℕ} {old list₀ list : List ℕ} {from cut place at : ℕ} (r : Recuts next n s d e kept old list₀ list from cut place at) where
+module _ {next : ℕ → ℕ} {n : ℕ} {edit : Edit} {past : List ℕ} {kept : ℕ} {list₀ : List ℕ} {from : ℕ} {list : List ℕ} {cut passed count : ℕ}
+    (r : Recuts next n edit past kept list₀ from list cut passed count) where
   pub same-room : length list ≡ length list₀
-  same-room = ap length (r .holds) ∙ length-overFrom kept (r .cuts) list₀ (omega (arith, r .counted, r .fits))
+  same-room =
+      sym (length-sets list (kept + count) (before (meets edit past) (after next n cut))) ∙ ap length (sym (r .written))
+      ∙ length-sets list₀ kept (before (meets edit past) (after next n from))
 
-  pub room-left : (at ≡ length list → ⊥) → at < length list
-  room-left other = by-lt at (length list) (λ h. h) (λ h. absurd (other (omega (arith, r .fits, same-room))))
-
-  -- all cuts up to the meeting are written
-  settled : (p : ℕ) → p ≤ length old → before (meets s d e (drop kept old)) (chain next n (n - cut) cut) ≡ []
-      → backFrom d e (drop kept old) (since (meets s d e (drop kept old)) (chain next n (n - cut) cut)) ≡ map (moved d e) (drop p old)
-      → Each (λ x. d ≤ x + e) (drop p old)
-      → Recutted s d e kept (drop kept old) (chain next n (n - from) from) old list₀ list (at - kept) p false
-  settled p h nothing back movable =
-      let all : before (meets s d e (drop kept old)) (chain next n (n - from) from) ≡ r .cuts =
-      r .still ∙ ap (λ l. r .cuts ++ l) nothing ∙ append-nil (r .cuts) in
-      let room : kept + length (r .cuts) ≤ length list₀ = omega (arith, r .counted, r .fits) in
+  -- no cut is left up to the meeting
+  settled : (p : ℕ) → p ≤ length past → before (meets edit past) (after next n cut) ≡ []
+      → backFrom edit past (since (meets edit past) (after next n cut)) ≡ map (moved edit) (drop p past)
+      → ((i : ℕ) → i < length (drop p past) → edit .removed ≤ getD (drop p past) i 0 + edit .added)
+      → Recutted edit n past (after next n from) kept list₀ list count p
+  settled p inside nothing back movable =
       record {
-        told = rw all (sym (le-ltb (length list₀) (kept + length (r .cuts)) room));
-        written = rw all (r .holds ∙ ap (λ l. overFrom kept l list₀) (sym (take-all (length list₀ - kept) (r .cuts) (omega arith))));
-        counted = λ h. rw all (omega (arith, r .counted));
-        within = λ k. h;
-        onward = λ k. ap (backFrom d e (drop kept old)) (r .onward) ∙ back;
-        movable = λ k. movable;
+        counted = omega (arith, r .counted, ap length nothing);
+        few = omega (arith, r .few);
+        written = sym (r .written ∙ ap (sets list (kept + count)) nothing);
+        within = inside;
+        onward = ap (backFrom edit past) (r .onward) ∙ back;
+        movable = movable;
       }
 
   -- the log ends with no meeting
-  pub recut-ended : n ≤ cut → Recutted s d e kept (drop kept old) (chain next n (n - from) from) old list₀ list (at - kept) (length old) false
+  pub recut-ended : n ≤ cut → Recutted edit n past (after next n from) kept list₀ list count (length past)
   unfolding backFrom
-  recut-ended past =
-      settled (length old) (omega arith) (ap (before (meets s d e (drop kept old))) (at-end next n (n - cut) cut past) ∙ before-is (meets s d e (drop kept old)) nowhere)
-      (ap (λ l. backFrom d e (drop kept old) (since (meets s d e (drop kept old)) l)) (at-end next n (n - cut) cut past)
-      ∙ ap (backFrom d e (drop kept old)) (since-is (meets s d e (drop kept old)) nowhere) ∙ ap (map (moved d e)) (sym (drop-length old)))
-      (subst (Each (λ x. d ≤ x + e)) (sym (drop-length old)) none)
+  recut-ended over =
+      let empty : after next n cut ≡ [] = at-end next n (n - cut) cut over in
+      settled (length past) (omega arith) (ap (before (meets edit past)) empty ∙ before-is (meets edit past) nowhere)
+      (ap (backFrom edit past) (ap (since (meets edit past)) empty ∙ since-is (meets edit past) nowhere) ∙ ap (map (moved edit)) (sym (drop-length past)))
+      (λ i h. absurd (omega (arith, length-drop (length past) past)))
 
   -- the next new cut t, and what a look at it told
-  module _ (ok : Rising next n) (below : cut < n) (t : ℕ) (is : t ≡ next cut) {place′ : ℕ} {met : Bool} (look : Looked s d e t old place place′ met) where
+  module _ (ok : Rising next n) (below : cut < n) (t : ℕ) (is : t ≡ next cut) {more : ℕ} {met : Bool} (look : Looked edit t (drop passed past) more met) where
     up : cut < t
     up = omega (arith, is, ok .rises cut below)
 
-    ahead : chain next n (n - cut) cut ≡ t ∷ chain next n (n - t) t
-    ahead = opened next n ok cut below ∙ ap (λ x. x ∷ chain next n (n - x) x) (sym is)
+    ahead : after next n cut ≡ t ∷ after next n t
+    ahead = opened next n ok cut below ∙ ap (λ x. x ∷ after next n x) (sym is)
 
-    told : met ≡ meets s d e (drop kept old) t
-    told = look .told ∙ (unfold meets in rw (r .passed t up))
+    told : met ≡ meets edit past t
+    told = look .told ∙ (unfold meets in rw (r .behind t up))
 
-    pub recut-met : Ascends 0 old → met ≡ true → Recutted s d e kept (drop kept old) (chain next n (n - from) from) old list₀ list (at - kept) place′ false
+    pub inside : passed + more ≤ length past
+    inside = omega (arith, look .within, length-drop passed past, r .within)
+
+    pub recut-met : Ascends past → met ≡ true → Recutted edit n past (after next n from) kept list₀ list count (passed + more)
     unfolding backFrom
     recut-met rises yes-met =
-        let hit : meets s d e (drop kept old) t ≡ true = sym told ∙ yes-met in
-        let (x, rest, there) = placed s d e (drop kept old) t hit in
-        let left : drop place′ old ≡ since (wasAt d e t) (drop kept old) = look .onward yes-met ∙ sym (r .passed t up) in
-        let first : d ≤ x + e = omega (arith, there .place) in
-        settled place′ (look .within) (ap (before (meets s d e (drop kept old))) ahead ∙ before-is (meets s d e (drop kept old)) (here hit))
-        (ap (λ l. backFrom d e (drop kept old) (since (meets s d e (drop kept old)) l)) ahead
-        ∙ ap (backFrom d e (drop kept old)) (since-is (meets s d e (drop kept old)) (here hit)) ∙ ap (map (moved d e)) (sym left))
-        (subst (Each (λ y. d ≤ y + e)) (sym (left ∙ there .onward))
-        (and-each first (each-so (λ y (h : x < y). omega arith) (ascends-above (ascends-after old place′ rises (left ∙ there .onward))))))
+        let hit : meets edit past t ≡ true = sym told ∙ yes-met in
+        let (x, rest, there) = placed edit past t hit in
+        let left : drop (passed + more) past ≡ since (wasAt edit t) past = sym (drop-drop more passed past) ∙ look .onward yes-met ∙ sym (r .behind t up) in
+        let first : getD (drop (passed + more) past) 0 0 ≡ x = ap (λ l. getD l 0 0) (left ∙ there .onward) in
+        settled (passed + more) inside (ap (before (meets edit past)) ahead ∙ before-is (meets edit past) (here hit))
+        (ap (backFrom edit past) (ap (since (meets edit past)) ahead ∙ since-is (meets edit past) (here hit)) ∙ ap (map (moved edit)) (sym left))
+        (λ i h. by-lt 0 i
+        (λ k. omega (arith, first, there .place, ascends-after (passed + more) past rises 0 i k h))
+        (λ k. let same : 0 ≡ i = omega arith in omega (arith, ap (λ j. getD (drop (passed + more) past) j 0) same, first, there .place)))
 
-    module _ (no-met : met ≡ false) where
-      on : before (meets s d e (drop kept old)) (chain next n (n - cut) cut) ≡ t ∷ before (meets s d e (drop kept old)) (chain next n (n - t) t)
-      on = ap (before (meets s d e (drop kept old))) ahead ∙ before-is (meets s d e (drop kept old)) (later (sym told ∙ no-met) (split (meets s d e (drop kept old)) (chain next n (n - t) t)))
-
-      pub recut-full : {count p : ℕ} → at ≡ length list → Recutted s d e kept (drop kept old) (chain next n (n - from) from) old list₀ list count p true
-      recut-full full =
-          let rest : List ℕ = before (meets s d e (drop kept old)) (chain next n (n - t) t) in
-          let all : before (meets s d e (drop kept old)) (chain next n (n - from) from) ≡ r .cuts ++ (t ∷ rest) = r .still ∙ ap (λ l. r .cuts ++ l) on in
-          let long : length list₀ < kept + length (r .cuts ++ (t ∷ rest)) = simp length-append (omega (arith, r .counted, same-room)) in
-          let places : length list₀ - kept ≡ length (r .cuts) = omega (arith, r .counted, same-room) in
-          record {
-            told = rw all (sym (lt-ltb (length list₀) (kept + length (r .cuts ++ (t ∷ rest))) long));
-            written = rw (all, places) (r .holds ∙ ap (λ l. overFrom kept l list₀) (sym (take-append-seam (r .cuts) (t ∷ rest))));
-            counted = λ h. absurd (never h);
-            within = λ h. absurd (never h);
-            onward = λ h. absurd (never h);
-            movable = λ h. absurd (never h);
-          }
-
-      pub recut-more : (at ≡ length list → ⊥) → Recuts next n s d e kept old list₀ (set list at t) from t place′ (at + 1)
-      recut-more other =
-          let left : at < length list = room-left other in
-          record {
-            cuts = r .cuts ++ (t ∷ []);
-            still = r .still ∙ ap (λ l. r .cuts ++ l) on ∙ sym (append-assoc (r .cuts) (t ∷ []) _);
-            onward = r .onward ∙ ap (since (meets s d e (drop kept old))) ahead ∙ since-is (meets s d e (drop kept old)) (later (sym told ∙ no-met) (split (meets s d e (drop kept old)) (chain next n (n - t) t)));
-            counted = simp length-append (omega (arith, r .counted));
-            fits = omega (arith, same-room);
-            holds = ap (λ l. set l at t) (r .holds) ∙ ap (λ k. set (overFrom kept (r .cuts) list₀) k t) (r .counted) ∙ overFrom-more kept (r .cuts) list₀ t (omega (arith, r .counted, same-room));
-            within = look .within;
-            passed = λ t′ h. r .passed t′ (omega (arith, up)) ∙ look .passed t′ h;
-          }
+    pub recut-more : met ≡ false → Recuts next n edit past kept list₀ from (set list (kept + count) t) t (passed + more) (count + 1)
+    recut-more no-met =
+        let step = later (sym told ∙ no-met) (split (meets edit past) (after next n t)) in
+        let on : before (meets edit past) (after next n cut) ≡ t ∷ before (meets edit past) (after next n t) = ap (before (meets edit past)) ahead ∙ before-is (meets edit past) step in
+        let place : suc (kept + count) ≡ kept + (count + 1) = omega arith in
+        record {
+          counted = omega (arith, r .counted, ap length on);
+          written = r .written ∙ ap (sets list (kept + count)) on ∙ ap (λ k. sets (set list (kept + count) t) k (before (meets edit past) (after next n t))) place;
+          onward = r .onward ∙ ap (since (meets edit past)) ahead ∙ since-is (meets edit past) step;
+          few = omega (arith, r .few, up, is, ok .within cut below);
+          within = inside;
+          behind = λ t′ h. r .behind t′ (omega (arith, up)) ∙ look .behind t′ h ∙ ap (since (wasAt edit t′)) (drop-drop more passed past);
+        }

@@ -1,37 +1,39 @@
 -- What the inner functions ask and tell.
-use Prim.Native.Nat.{ℕ, _+_, _-_, _≤_, _<_, _^_}
+use Prim.Native.Nat.{ℕ, _+_, _≤_, _<_, _^_}
 use mathlib.Core.Path.{_≡_}
-use mathlib.Core.Bool.{Bool, true, false}
-use mathlib.Core.List.{List, [], _∷_, map}
-use lib.Dec.{ltb}
-use lib.ListN.{length, take, drop}
-use Rattle.laws.specs.Over.{overFrom}
+use mathlib.Core.Bool.{Bool, true}
+use mathlib.Core.List.{List, map}
+use lib.ListN.{length, getD, drop}
+use lib.Seq.{sets}
+use Rattle.amending.specs.declared.edits.Edit.{Edit}
 use Rattle.amending.specs.Parts.{before, since, wasAt, meets, moved, backFrom}
-use Rattle.amending.specs.Told.{Each}
 
--- a list that rises from b
-pub data Ascends : ℕ → List ℕ → Type 0 where
-  nothing-more : {b : ℕ} → Ascends b []
-  higher : {b x : ℕ} {l : List ℕ} → b < x → Ascends x l → Ascends b (x ∷ l)
+-- the entries rise
+abbrev pub Ascends : List ℕ → Type 0
+Ascends l = (i j : ℕ) → i < j → j < length l → getD l i 0 < getD l j 0
+
+-- the edit that moves nothing
+abbrev pub noEdit : Edit
+noEdit = record { at = 0; removed = 0; added = 0 }
 
 -- each entry can be moved by e - d within 64 bits
-abbrev pub Movable : (d e : ℕ) → List ℕ → Type 0
-Movable d e l = Each (λ x. (d ≤ x + e) × (x + e < 2 ^ 64)) l
+abbrev pub Movable : Edit → List ℕ → Type 0
+Movable edit l = (i : ℕ) → i < length l → (edit .removed ≤ getD l i 0 + edit .added) × (getD l i 0 + edit .added < 2 ^ 64)
 
--- what a look at the new cut t tells of the old cuts from a place on: whether t meets one of them, from where on it does, and that
--- no later new cut can meet an old cut that was passed
-pub record Looked (s d e t : ℕ) (old : List ℕ) (from place : ℕ) (met : Bool) : Type 0 where
-  pub within : place ≤ length old
-  pub told : met ≡ meets s d e (drop from old) t
-  pub onward : met ≡ true → drop place old ≡ since (wasAt d e t) (drop from old)
-  pub passed : (t′ : ℕ) → t < t′ → since (wasAt d e t′) (drop from old) ≡ since (wasAt d e t′) (drop place old)
+-- what a look at the new cut t tells of the old cuts that are left: whether t meets one of them, which then are left, and that no later
+-- new cut can meet one that was passed
+pub record Looked (edit : Edit) (t : ℕ) (left : List ℕ) (passed : ℕ) (met : Bool) : Type 0 where
+  pub within : passed ≤ length left
+  pub told : met ≡ meets edit left t
+  pub onward : met ≡ true → drop passed left ≡ since (wasAt edit t) left
+  pub behind : (t′ : ℕ) → t < t′ → since (wasAt edit t′) left ≡ since (wasAt edit t′) (drop passed left)
 
--- what recutting from one cut on tells, where kept entries stand before it: whether the list was full before its end, what the list
--- holds, and, if it was not full, the cuts written and the place of the old cuts that make the back
-pub record Recutted (s d e kept : ℕ) (past news old list₀ list : List ℕ) (count place : ℕ) (full : Bool) : Type 0 where
-  pub told : full ≡ ltb (length list₀) (kept + length (before (meets s d e past) news))
-  pub written : list ≡ overFrom kept (take (length list₀ - kept) (before (meets s d e past) news)) list₀
-  pub counted : full ≡ false → count ≡ length (before (meets s d e past) news)
-  pub within : full ≡ false → place ≤ length old
-  pub onward : full ≡ false → backFrom d e past (since (meets s d e past) news) ≡ map (moved d e) (drop place old)
-  pub movable : full ≡ false → Each (λ x. d ≤ x + e) (drop place old)
+-- what recutting a log of so many bytes tells, where kept entries stand before: the cuts up to the meeting are counted and written as far as
+-- the list goes, and the old cuts from the meeting on, which can be moved, make the back
+pub record Recutted (edit : Edit) (bytes : ℕ) (past news : List ℕ) (kept : ℕ) (list₀ list : List ℕ) (count passed : ℕ) : Type 0 where
+  pub counted : count ≡ length (before (meets edit past) news)
+  pub few : count ≤ bytes
+  pub written : list ≡ sets list₀ kept (before (meets edit past) news)
+  pub within : passed ≤ length past
+  pub onward : backFrom edit past (since (meets edit past) news) ≡ map (moved edit) (drop passed past)
+  pub movable : (i : ℕ) → i < length (drop passed past) → edit .removed ≤ getD (drop passed past) i 0 + edit .added

@@ -3,3 +3,4 @@ pub mod Masked
 pub mod Searching
 pub mod Written
 pub mod Filling
+pub mod Reaching

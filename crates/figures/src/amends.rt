@@ -6,6 +6,7 @@ use super::logs::all_bits;
 use super::show;
 use amending::Amendment;
 use amending::amend;
+use amending::edits::Edit;
 
 fn counts(what: &[u8], amendment: Amendment) {
     show::text(what);
@@ -38,7 +39,17 @@ fn edit(
     if length <= bytes.len() {
         counts(
             what,
-            amend(all_bits(48, 200), old, s, d, e, &bytes[..length], list),
+            amend(
+                all_bits(48, 200),
+                old,
+                Edit {
+                    at: s,
+                    removed: d,
+                    added: e,
+                },
+                &bytes[..length],
+                list,
+            ),
         );
         show::entries(list);
     }

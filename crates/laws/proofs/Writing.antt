@@ -60,13 +60,6 @@ overFrom-next k i l b h room =
     let size : length (take i l) ≡ i = length-take-le i l (omega arith) in
     rw size at (overFrom-more k (take i l) b (getD l i 0) (rw size (omega arith))) ∙ rw (add-one, take-suc l i 0 h)
 
-pub length-overFrom : (k : ℕ) (l b : List ℕ) → k + length l ≤ length b → length (overFrom k l b) ≡ length b
-unfolding overFrom
-length-overFrom k l b h =
-    let front : length (take k b) ≡ k = length-take-le k b (omega arith) in
-    let rest : length (over l (drop k b)) ≡ length (drop k b) = length-over l (drop k b) (rw length-drop (omega arith)) in
-    rw (length-append, rest, front, length-drop) (omega arith)
-
 -- what is written after l is written with l
 pub overFrom-over : (l m b : List ℕ) → overFrom (length l) m (over l b) ≡ over (l ++ m) b
 unfolding over overFrom

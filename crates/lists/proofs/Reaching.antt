@@ -49,13 +49,14 @@ reaches-after [] r o = o
 reaches-after (x ∷ k) r (step up near far more) = reaches-after k r more
 
 -- first entries k that something follows may be followed by another list, to another end
-pub reaches-on : {lo hi z z′ b : ℕ} (k r : List ℕ) {r′ : List ℕ} → 0 < length r → Reaches lo hi z b (k ++ r)
+pub reaches-on : {lo hi z z′ b : ℕ} (k r : List ℕ) {r′ : List ℕ} → (0 < length k → 0 < length r) → Reaches lo hi z b (k ++ r)
     → Reaches lo hi z′ (lastOr b k) r′ → Reaches lo hi z′ b (k ++ r′)
 unfolding lastOr
 reaches-on [] r some o new = new
 reaches-on {z = z} (x ∷ k) r some (step up near far more) new =
+    let follows : 0 < length r = some (omega arith) in
     let below : x < z = omega (arith, reaches-long more, length-append k r) in
-    step up near (λ h. far below) (reaches-on k r some more new)
+    step up near (λ h. far below) (reaches-on k r (λ h. follows) more new)
 
 module _ (lo hi : ℕ) where
   step-told : (last : Bool) (b x : ℕ) → stepFits lo hi last b x ≡ true → (b < x) × (x ≤ b + hi) × (last ≡ false → b + lo ≤ x)

@@ -26,8 +26,9 @@ use Rattle.taking.specs.Taking.{takenOf}
 use Rattle.pass.specs.Calls.{noCarry, freshOf, blockOf, blockList, closeOf, closeList, closingCut}
 use Rattle.promises.specs.Leaves.{Leaves, HandsBack}
 use Rattle.promises.proofs.Unless.{passNumber, row-leaves, guard-leaves}
+use Rattle.amending.specs.declared.edits.Edit.{Edit}
 use Rattle.amending.specs.Parts.{amendedList}
-use Rattle.amending.specs.Answers.{amendmentNumber, newCutsOf, editFits, partsAnswer, amendAnswer, amendList}
+use Rattle.amending.specs.Answers.{amendmentNumber, newCutsOf, editFits, partsAnswer, judged, amendAnswer, amendList}
 use Rattle.sheet.specs.declared.Sheet.{Sheet}
 use Rattle.sheet.specs.declared.Sheet.the-variants as sheet
 use Rattle.sheet.specs.Write.{writeAnswer, bytesAfter}
@@ -90,15 +91,15 @@ close-leaves c list =
     (row-leaves passNumber (leb 1 (length list)) (omega arith)
     (record { untouched = λ refusal guard. absurd (refusal refl); guarded = λ guard. absurd (omega arith) }))))
 
-pub amend-leaves : (s : Settings) (old : List ℕ) (at removed added : ℕ) (log list : List ℕ)
-    → Leaves (amendmentNumber (amendAnswer s old at removed added log (length list))) list (amendList s old at removed added log list)
-    (amendedList (newCutsOf s log) old at removed added)
-unfolding amendAnswer amendList partsAnswer amendmentNumber
-amend-leaves s old at removed added log list =
-    let cuts = amendedList (newCutsOf s log) old at removed added in
+pub amend-leaves : (s : Settings) (old : List ℕ) (edit : Edit) (log list : List ℕ)
+    → Leaves (amendmentNumber (amendAnswer s old edit log (length list))) list (amendList s old edit log list)
+    (amendedList (newCutsOf s log) old edit)
+unfolding amendAnswer amendList judged partsAnswer amendmentNumber
+amend-leaves s old edit log list =
+    let cuts = amendedList (newCutsOf s log) old edit in
     row-leaves amendmentNumber (inRange s) (omega arith)
     (row-leaves amendmentNumber (wellFormed (s .minimum) (s .maximum) old) (omega arith)
-    (row-leaves amendmentNumber (editFits (lengthOf old) at removed added (length log)) (omega arith)
+    (row-leaves amendmentNumber (editFits (lengthOf old) edit (length log)) (omega arith)
     (row-leaves amendmentNumber (leb (length log) longest) (omega arith)
     (row-leaves amendmentNumber (leb (roomFor (s .minimum) (length log)) (length list)) (omega arith)
     (guard-leaves amendmentNumber (leb (length cuts) (length list)) cuts list refl refl)))))

@@ -16,8 +16,9 @@ use Rattle.carry.specs.declared.Carry.{Carry}
 use Rattle.carry.specs.Carries.{inOrder, cutsIn}
 use Rattle.taking.specs.Taking.{takenOf}
 use Rattle.pass.specs.Calls.{freshOf, blockOf, closeOf}
+use Rattle.amending.specs.declared.edits.Edit.{Edit}
 use Rattle.amending.specs.Parts.{amendedList}
-use Rattle.amending.specs.Answers.{amendmentNumber, newCutsOf, editFits, partsAnswer, amendAnswer}
+use Rattle.amending.specs.Answers.{amendmentNumber, newCutsOf, editFits, partsAnswer, judged, amendAnswer}
 use Rattle.sheet.specs.Trailer.{mostCuts, trailerRight}
 use Rattle.sheet.specs.Sheets.{checked}
 use Rattle.sheet.specs.Write.{writeAnswer}
@@ -56,16 +57,16 @@ close-rows c room =
     (unless-open passNumber (c .closed) refl
     (unless-at-most passNumber 1 room refl refl)))
 
-pub amend-rows : (s : Settings) (old : List ℕ) (at removed added : ℕ) (log : List ℕ) (room : ℕ)
-    → amendmentNumber (amendAnswer s old at removed added log room) ≡ firstRow (amendRows s old at removed added log room)
-unfolding amendmentNumber amendAnswer partsAnswer amendRows firstRow
-amend-rows s old at removed added log room =
+pub amend-rows : (s : Settings) (old : List ℕ) (edit : Edit) (log : List ℕ) (room : ℕ)
+    → amendmentNumber (amendAnswer s old edit log room) ≡ firstRow (amendRows s old edit log room)
+unfolding amendmentNumber amendAnswer judged partsAnswer amendRows firstRow
+amend-rows s old edit log room =
     unless-not amendmentNumber (inRange s) refl
     (unless-not amendmentNumber (wellFormed (s .minimum) (s .maximum) old) refl
-    (unless-not amendmentNumber (editFits (lengthOf old) at removed added (length log)) refl
+    (unless-not amendmentNumber (editFits (lengthOf old) edit (length log)) refl
     (unless-at-most amendmentNumber (length log) longest refl
     (unless-at-most amendmentNumber (roomFor (s .minimum) (length log)) room refl
-    (unless-at-most amendmentNumber (length (amendedList (newCutsOf s log) old at removed added)) room refl refl)))))
+    (unless-at-most amendmentNumber (length (amendedList (newCutsOf s log) old edit)) room refl refl)))))
 
 pub write-sheet-rows : (s : Settings) (list : List ℕ) (room : ℕ) → answerNumber (writeAnswer s list room) ≡ firstRow (writeSheetRows s list room)
 unfolding answerNumber writeAnswer writeSheetRows firstRow

@@ -18,6 +18,7 @@ use Rattle.bays.specs.Bays.{bayOf, isDone, isSound}
 use Rattle.recording.specs.Records.{segmentOf}
 use Rattle.board.specs.Recording.{recordFits}
 use Rattle.walk.specs.Walk.{boardWalk}
+use Rattle.amending.specs.declared.edits.Edit.{Edit}
 use Rattle.amending.specs.Parts.{amendedList}
 use Rattle.amending.specs.Answers.{newCutsOf, editFits}
 use Rattle.sheet.specs.Trailer.{mostCuts, trailerRight}
@@ -102,14 +103,14 @@ mergeRows s n size width board room =
     ∷ bayRows s n size width board (row 17 (ltb room (length (boardWalk s n size width board))) ∷ []) (segments size n) 0
 
 -- amending: 1, 10, 11, 2, 5, and the guard
-unfoldable pub amendRows : Settings → List ℕ → (at removed added : ℕ) → List ℕ → ℕ → List Row
-amendRows s old at removed added log room =
+unfoldable pub amendRows : Settings → List ℕ → Edit → List ℕ → ℕ → List Row
+amendRows s old edit log room =
     row 1 (not (inRange s))
     ∷ row 10 (not (wellFormed (s .minimum) (s .maximum) old))
-    ∷ row 11 (not (editFits (lengthOf old) at removed added (length log)))
+    ∷ row 11 (not (editFits (lengthOf old) edit (length log)))
     ∷ row 2 (ltb longest (length log))
     ∷ row 5 (ltb room (roomFor (s .minimum) (length log)))
-    ∷ row 17 (ltb room (length (amendedList (newCutsOf s log) old at removed added)))
+    ∷ row 17 (ltb room (length (amendedList (newCutsOf s log) old edit)))
     ∷ []
 
 -- writing a sheet: 1, 10, 16, 5

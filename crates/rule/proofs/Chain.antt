@@ -1,12 +1,12 @@
--- Chains over any `next` that rises and stays within n: opening, runs, taking the list apart at a cut, and two chains that lie alike.
+-- Chains over any `next` that rises and stays within n: opening, runs, taking the list apart at a cut, and runs of two rules that lie alike.
 -- Nothing here knows of marks, so that the rule may change behind it.
 use Prim.Native.Nat.{ℕ, zero, suc, _+_, _-_, _≤_, _<_}
-use mathlib.Core.Path.{_≡_, refl, sym, ap, ap₂, _∙_, subst}
-use mathlib.Core.List.{List, [], _∷_, _++_, map}
+use mathlib.Core.Path.{_≡_, refl, sym, ap, _∙_, subst}
+use mathlib.Core.List.{List, [], _∷_, _++_, map, append-nil}
 use native.Mathlib.Omega.{arith}
 use borrow.Author.Tests.{lt-ltb, le-ltb}
 use Rattle.laws.proofs.Cases.{by-lt}
-use Rattle.rule.specs.Rule.{chain}
+use Rattle.rule.specs.Rule.{chain, lastOr}
 
 -- l are the cuts after c, one after the other, and m is the last of them, or c where there are none
 pub data Run (next : ℕ → ℕ) (n : ℕ) : ℕ → List ℕ → ℕ → Type 0 where
@@ -21,6 +21,15 @@ pub record Rising (next : ℕ → ℕ) (n : ℕ) : Type 0 where
 pub run-joined : {next : ℕ → ℕ} {n c m e : ℕ} {l k : List ℕ} → Run next n c l m → Run next n m k e → Run next n c (l ++ k) e
 run-joined stay s = s
 run-joined (onward h r) s = onward h (run-joined r s)
+
+-- what follows the first cuts p of a run, or its first cut
+pub run-after : {next : ℕ → ℕ} {n c m : ℕ} (p r : List ℕ) → Run next n c (p ++ r) m → Run next n (lastOr c p) r m
+unfolding lastOr
+run-after [] r o = o
+run-after (x ∷ p) r (onward h o) = run-after p r o
+
+pub run-tail : {next : ℕ → ℕ} {n c x m : ℕ} {r : List ℕ} → Run next n c (x ∷ r) m → Run next n x r m
+run-tail (onward h o) = o
 
 module _ (next : ℕ → ℕ) (n : ℕ) where
   one-more : (fuel c : ℕ) → c < n → chain next n (suc fuel) c ≡ next c ∷ chain next n fuel (next c)
@@ -69,30 +78,18 @@ module _ (next : ℕ → ℕ) (n : ℕ) where
     pub whole : (c : ℕ) → c ≤ n → Run next n c (chain next n (n - c) c) n
     whole c h = by-fuel n c h (omega arith)
 
-    pub run-rises : {c m : ℕ} {l : List ℕ} → Run next n c l m → c ≤ m
-    run-rises stay = omega arith
-    run-rises (onward {c = c} h r) = let up : c < next c = ok .rises c h in let on : next c ≤ _ = run-rises r in omega arith
+    -- a run to the log's end is all the cuts that follow
+    pub run-all : {c : ℕ} {l : List ℕ} → Run next n c l n → chain next n (n - c) c ≡ l
+    run-all {c} {l} r = parted r ∙ ap (λ k. l ++ k) (at-end (n - n) n (omega arith)) ∙ append-nil l
 
--- a run is one of another rule too, where that rule agrees on each of its steps
-pub run-kept : {next next′ : ℕ → ℕ} {n n′ : ℕ} → Rising next n → {c m : ℕ} {l : List ℕ}
-    → ((x : ℕ) → x < n → next x ≤ m → (x < n′) × (next′ x ≡ next x)) → Run next n c l m → Run next′ n′ c l m
-run-kept ok agree stay = stay
-run-kept {next} {next′} {n} {n′} ok agree (onward {c = c} {l = l} {m = m} h r) =
-    let same = agree c h (run-rises next n ok r) in
-    subst (λ x. Run next′ n′ c (x ∷ l) m) (same .1)
-    (onward (same .0) (subst (λ x. Run next′ n′ x l m) (sym (same .1)) (run-kept ok agree r)))
-
--- two chains that lie alike from c and c′ on: a step of the one, moved, is a step of the other
-module _ (next next′ : ℕ → ℕ) (n n′ a b : ℕ) (ends : n + b ≡ n′ + a) where
-  pub chains-alike : (from : ℕ)
-      → ((x x′ : ℕ) → from ≤ x → x < n → x + b ≡ x′ + a → (from ≤ next x) × (next x + b ≡ next′ x′ + a))
-      → (fuel c c′ : ℕ) → from ≤ c → c + b ≡ c′ + a
-      → map (λ x. x + b) (chain next n fuel c) ≡ map (λ x. x + a) (chain next′ n′ fuel c′)
-  unfolding chain
-  chains-alike from step zero c c′ h e = refl
-  chains-alike from step (suc fuel) c c′ h e =
-      by-lt c n
-      (λ below. let s = step c c′ h below e in
-      rw (one-more next n fuel c below, one-more next′ n′ fuel c′ (omega arith))
-      (ap₂ _∷_ (s .1) (chains-alike from step fuel (next c) (next′ c′) (s .0) (s .1))))
-      (λ past. rw (at-end next n (suc fuel) c past, at-end next′ n′ (suc fuel) c′ (omega arith)))
+-- a run, moved, is one of another rule that lies alike: where x stands in the one log, x′ stands in the other, and so their next cuts
+module _ (next next′ : ℕ → ℕ) (n n′ a b from : ℕ) (ends : n + b ≡ n′ + a)
+    (alike : (x x′ : ℕ) → from ≤ x → x < n → x + b ≡ x′ + a → (from ≤ next x) × (next x + b ≡ next′ x′ + a)) where
+  pub run-moved : {x m : ℕ} {l : List ℕ} (x′ m′ : ℕ) → from ≤ x → x + b ≡ x′ + a → m + b ≡ m′ + a → Run next n x l m
+      → Run next′ n′ x′ (map (λ y. y + b - a) l) m′
+  run-moved x′ m′ far place goal stay = subst (λ m. Run next′ n′ x′ [] m) (omega arith) stay
+  run-moved x′ m′ far place goal (onward {c = x} below r) =
+      let s = alike x x′ far below place in
+      let here : next x + b - a ≡ next′ x′ = omega arith in
+      let inside : x′ < n′ = omega arith in
+      rw here (onward inside (run-moved (next′ x′) m′ (s .0) (s .1) goal r))

@@ -1,6 +1,6 @@
 -- The rule's next cut: document 01's sentence holds of it and of nothing else; its bounds; what it depends on; how it moves.
 use Prim.Native.Nat.{ℕ, suc, _+_, _-_, _≤_, _<_, min}
-use mathlib.Core.Path.{_≡_, sym, ap, _∙_, subst}
+use mathlib.Core.Path.{_≡_, refl, sym, ap, _∙_, subst}
 use mathlib.Core.Bool.{Bool}
 use native.Mathlib.Omega.{arith}
 use Rattle.laws.proofs.Cases.{by-lt}
@@ -60,14 +60,18 @@ module _ (mark mark′ : ℕ → Bool) (lo hi n n′ a b : ℕ) (ends : n + b �
       (λ i h. ap mark (omega arith) ∙ same (lo + i) (omega arith) (omega arith) (omega arith) ∙ ap mark′ (omega arith))
       ∙ ap (λ j. firstMark mark′ j (c′ + lo) (min (c′ + hi) n′) + a) (omega arith)
 
--- a cut that does not end its log is one of any log that is marked alike up to it
-pub next-kept : (mark mark′ : ℕ → Bool) (lo hi n n′ c : ℕ) → next mark lo hi n c < n → next mark lo hi n c ≤ n′
+-- a next cut is made again in another log that is marked alike up to it: at most as far as that log goes, and at its own log's end only
+-- where the two end together
+pub next-again : (mark mark′ : ℕ → Bool) (lo hi n n′ c : ℕ) → next mark lo hi n c ≤ n′ → (next mark lo hi n c ≡ n → n ≡ n′)
     → ((q : ℕ) → c + lo ≤ q → q ≤ next mark lo hi n c → mark q ≡ mark′ q) → next mark′ lo hi n′ c ≡ next mark lo hi n c
-next-kept mark mark′ lo hi n n′ c h h′ same = next-only mark′ lo hi n′ c (kept (next-is mark lo hi n c) h h′ same)
+next-again mark mark′ lo hi n n′ c low end-same same = next-only mark′ lo hi n′ c (again (next-is mark lo hi n c) low end-same same)
   where
-    kept : {r : ℕ} → NextCut mark lo hi n c r → r < n → r ≤ n′ → ((q : ℕ) → c + lo ≤ q → q ≤ r → mark q ≡ mark′ q)
+    again : {r : ℕ} → NextCut mark lo hi n c r → r ≤ n′ → (r ≡ n → n ≡ n′) → ((q : ℕ) → c + lo ≤ q → q ≤ r → mark q ≡ mark′ q)
         → NextCut mark′ lo hi n′ c r
-    kept (first-mark r a b e m u) h h′ same =
-        first-mark r a b h′ (sym (same r a (omega arith)) ∙ m) (λ q p k. sym (same q p (omega arith)) ∙ u q p k)
-    kept (forced e u) h h′ same = forced h′ (λ q p k. sym (same q p (omega arith)) ∙ u q p k)
-    kept (log-ends e u) h h′ same = absurd (omega arith)
+    again (first-mark r a b h m u) low end-same same =
+        first-mark r a b low (sym (same r a (omega arith)) ∙ m) (λ q p k. sym (same q p (omega arith)) ∙ u q p k)
+    again (forced h u) low end-same same = forced low (λ q p k. sym (same q p (omega arith)) ∙ u q p k)
+    again (log-ends h u) low end-same same =
+        let ends : n ≡ n′ = end-same refl in
+        let short : n′ < c + hi = omega arith in
+        subst (λ r. NextCut mark′ lo hi n′ c r) (sym ends) (log-ends short (λ q p k. sym (same q p (omega arith)) ∙ u q p (omega arith)))

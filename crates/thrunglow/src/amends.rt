@@ -3,6 +3,7 @@ ghost use mathlib.Core.Path.{_≡_};
 ghost use lib.ListN.{length};
 ghost use Rattle.amending.specs.Answers.{amendAnswer, amendList};
 ghost use Rattle.thrunglow.specs.Amends.{countsOf};
+use amending::edits::Edit;
 use terms::Settings;
 
 // The entries of the three parts: kept, cut again, moved. All 0 beside a refusal.
@@ -43,8 +44,9 @@ pub extern "C" fn thrunglow_amend(
     log: &[u8],
     list: &mut [u64],
 ) -> Amendment
-    ensures { λ r. ⌜ r ≡ countsOf (amendAnswer settings (now (old .entry)) at removed added (now (log .entry)) (length (now (list .entry)))) ⌝ }
-    ensures { λ r. ⌜ now (list .exit) ≡ amendList settings (now (old .entry)) at removed added (now (log .entry)) (now (list .entry)) ⌝ }
+    ensures { λ r. ⌜ r ≡ countsOf (amendAnswer settings (now (old .entry)) (record { at = at; removed = removed; added = added }) (now (log .entry)) (length (now (list .entry)))) ⌝ }
+    ensures { λ r. ⌜ now (list .exit) ≡ amendList settings (now (old .entry)) (record { at = at; removed = removed; added = added }) (now (log .entry)) (now (list .entry)) ⌝ }
 {
-    counted(amending::amend(settings, old, at, removed, added, log, list))
+    let edit = Edit { at, removed, added };
+    counted(amending::amend(settings, old, edit, log, list))
 }

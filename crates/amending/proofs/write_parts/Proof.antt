@@ -1,95 +1,115 @@
--- `amending::write_parts` meets its contract: proofs/Written.antt says what each step leaves.
-use mathlib.Core.Path.{_≡_}
-use mathlib.Core.Bool.{false}
-use Prim.Native.Nat.{_-_}
+-- `amending::write_parts` meets its contract: proofs/Written.antt says what the three calls leave.
+use Prim.Native.Nat.{_-_, _≤_}
 use native.Mathlib.Omega.{arith}
-use lib.ListN.{length}
+use lib.ListN.{length, drop, length-take}
+use lib.Seq.{length-take-le}
+use mathlib.Core.Path.{sym}
 use borrow.Author.Needs.{needs}
-use Rattle.terms.proofs.Ranges.{ranges}
+use Rattle.laws.proofs.Slices.{rest-from}
 use Rattle.amending.specs.Answers.{newCutsOf}
 use Rattle.amending.proofs.Front.{count-fits}
-use Rattle.amending.proofs.Written.{Sound, sound, front-movable, back-movable, Kept, front-kept, front-full, Ready, recut-full, recut-ready, back-full, all-written}
+use Rattle.amending.proofs.Looking.{ascends-after}
+use Rattle.amending.proofs.Written.{Sound, sound, front-movable, back-movable, Done, parts-done, parts-full, parts-fit}
 use Rattle.amending.proofs.write_parts.Statement.{statement}
 use Rattle.amending.proofs.write_parts.Tie as tie
 
 -- what the contract's requires allow
-fine : (c : tie.Start) → Sound (c .args .old .now) (c .args .s) (c .args .d) (c .args .e) (length (c .args .log .now))
-fine c = sound _ _ _ _ _ _ _ (omega (arith, ranges _ (c .pre .0 .0) .window-fits)) (c .pre .0 .1) (c .pre .1 .0) (c .pre .1 .1)
+fine : (c : tie.Start) → Sound (c .args .old .now) (c .args .edit) (length (c .args .log .now))
+fine c = sound _ _ _ _ _ (c .pre .0 .1) (c .pre .1 .0) (c .pre .1 .1)
 
--- after the front is copied
-kept-known : (c : tie.After-copy-moved) → Kept (c .before .before .before .before .before .before .args .old .now) (c .before .before .before .before .before .before .args .s) (c .before .before .before .before .before .before .args .list .now) (c .before .before .front-count .result) (c .copy-moved .last .1 .1 .1 .1 .1 .0)
-kept-known c = front-kept _ _ _ _ _ (c .before .before .front-count .ensures) (c .copy-moved .ensures)
+-- the front is part of the old list
+kept-fits : (c : tie.After-front-count) → c .front-count .result ≤ length (c .before .before .before .before .args .old .now)
+kept-fits c = omega (arith, c .front-count .ensures, count-fits (c .before .before .before .before .args .edit .at) (c .before .before .before .before .args .old .now))
 
--- after the recut, where the list was not full
-ready : (c : tie.After-recut) → c .recut .result .full ≡ false
-    → Ready (newCutsOf (c .before .before .before .before .before .before .before .before .before .before .before .before .args .settings) (c .before .before .before .before .before .before .before .before .before .before .before .before .args .log .now)) (c .before .before .before .before .before .before .before .before .before .before .before .before .args .old .now) (c .before .before .before .before .before .before .before .before .before .before .before .before .args .s) (c .before .before .before .before .before .before .before .before .before .before .before .before .args .d) (c .before .before .before .before .before .before .before .before .before .before .before .before .args .e) (c .before .before .before .before .before .before .before .before .before .before .before .before .args .list .now) (c .before .before .before .before .before .before .before .before .front-count .result) (c .recut .result .count) (c .recut .result .place) (c .recut .last .1 .1 .1 .1 .1 .1 .1 .1 .0)
-ready c = recut-ready (newCutsOf (c .before .before .before .before .before .before .before .before .before .before .before .before .args .settings) (c .before .before .before .before .before .before .before .before .before .before .before .before .args .log .now)) (c .before .before .before .before .before .before .before .before .before .before .before .before .args .d) (c .before .before .before .before .before .before .before .before .before .before .before .before .args .e) (kept-known (c .before .before .before .before .before .before)) (c .before .before .before .if1 .left) (c .before .before .last-of .ensures) (c .recut .ensures)
+-- once the back is written
+done : (c : tie.After-put-moved2) → Done (newCutsOf (c .before .before .before .before .before .before .before .before .before .before .before .before .before .before .before .before .before .before .before .args .settings) (c .before .before .before .before .before .before .before .before .before .before .before .before .before .before .before .before .before .before .before .args .log .now)) (c .before .before .before .before .before .before .before .before .before .before .before .before .before .before .before .before .before .before .before .args .old .now) (c .before .before .before .before .before .before .before .before .before .before .before .before .before .before .before .before .before .before .before .args .edit) (c .before .before .before .before .before .before .before .before .before .before .before .before .before .before .before .before .before .before .before .args .list .now) (c .put-moved2 .last .1 .1 .0) (c .before .before .before .before .before .before .before .before .before .before .before .before .before .before .before .front-count .result) (c .before .before .before .before .before .recut .result .count) (length (drop (c .before .before .before .before .before .recut .result .passed) (drop (c .before .before .before .before .before .before .before .before .before .before .before .before .before .before .before .front-count .result) (c .before .before .before .before .before .before .before .before .before .before .before .before .before .before .before .before .before .before .before .args .old .now))))
+done c = parts-done _ _ _ _ (c .before .before .before .before .before .before .before .before .before .before .before .before .before .before .before .front-count .ensures) (rw (c .before .before .before .before .before .before .before .before .before .before .before .before .before .nothing .ensures) at (c .before .before .before .before .before .before .before .before .before .before .before .put-moved .ensures)) (c .before .before .before .before .before .before .before .before .last-of .ensures) (rw rest-from at (c .before .before .before .before .before .recut .ensures)) (rw (rest-from, rest-from) at (c .put-moved2 .ensures))
 
 front-count-requires : tie.Need-front-count-requires
-front-count-requires c κs = search needs
+front-count-requires c κs = omega (arith, fine (c .before .before .before) .place-low)
 
-copy-moved-requires : tie.Need-copy-moved-requires
-copy-moved-requires c κs = ((omega (arith, c .before .front-count .ensures, count-fits (c .before .before .before .before .before .args .s) (c .before .before .before .before .before .args .old .now)), omega arith), front-movable (fine (c .before .before .before .before .before)) (c .before .front-count .result))
+slice-aggregate-front : tie.Need-slice-aggregate-front
+slice-aggregate-front c = sym (length-take-le _ _ (kept-fits (c .before)))
+
+nothing-requires : tie.Need-nothing-requires
+nothing-requires c κs = search needs
+
+put-moved-requires : tie.Need-put-moved-requires
+put-moved-requires c κs = (omega (arith, kept-fits (c .before .before .before), fine (c .before .before .before .before .before .before .before) .few, length-take (c .before .before .before .front-count .result) (c .before .before .before .before .before .before .before .args .old .now)), rw (c .before .nothing .ensures) (front-movable (fine (c .before .before .before .before .before .before .before)) (c .before .before .before .front-count .result)))
+
+last-of-requires : tie.Need-last-of-requires
+last-of-requires c κs = search needs
+
+mul-past : tie.Need-mul-past
+mul-past c = omega (arith, kept-fits (c .before .before .before .before .before .before .before), c .before .before .before .before .before .before .before .before .before .before .before .good)
+
+sub-past : tie.Need-sub-past
+sub-past c = omega (arith, kept-fits (c .before .before .before .before .before .before .before))
+
+part-past-start : tie.Need-part-past-start
+part-past-start c = kept-fits (c .before .before .before .before .before .before .before)
+
+part-past-end : tie.Need-part-past-end
+part-past-end c = search needs
+
+recut-requires : tie.Need-recut-requires
+recut-requires c κs = ((c .before .before .before .before .before .before .before .before .before .before .before .before .before .pre .0 .0, rw rest-from (ascends-after (c .before .before .before .before .before .before .before .before .before .front-count .result) (c .before .before .before .before .before .before .before .before .before .before .before .before .before .args .old .now) (fine (c .before .before .before .before .before .before .before .before .before .before .before .before .before) .rises))), (omega (arith, fine (c .before .before .before .before .before .before .before .before .before .before .before .before .before) .place-low), omega (arith, fine (c .before .before .before .before .before .before .before .before .before .before .before .before .before) .taken-low, c .before .before .before .before .before .before .before .before .before .before .before .before .before .pre .1 .1), omega (arith, kept-fits (c .before .before .before .before .before .before .before .before .before), fine (c .before .before .before .before .before .before .before .before .before .before .before .before .before) .few, c .before .before .before .before .before .before .before .before .before .before .before .before .before .pre .1 .1)))
+
+mul-back : tie.Need-mul-back
+mul-back c = search needs
+
+sub-back : tie.Need-sub-back
+sub-back c = search needs
+
+part-back-start : tie.Need-part-back-start
+part-back-start c = search needs
+
+part-back-end : tie.Need-part-back-end
+part-back-end c = search needs
+
+add-at : tie.Need-add-at
+add-at c = omega (arith, kept-fits (c .before .before .before .before .before .before .before .before .before .before .before .before .before), fine (c .before .before .before .before .before .before .before .before .before .before .before .before .before .before .before .before .before) .few, c .before .before .before .recut .ensures .few, c .before .before .before .before .before .before .before .before .before .before .before .before .before .before .before .before .before .pre .1 .1)
+
+put-moved-requires-2 : tie.Need-put-moved-requires-2
+put-moved-requires-2 c κs = (omega (arith, kept-fits (c .before .before .before .before .before .before .before .before .before .before .before .before .before .before), fine (c .before .before .before .before .before .before .before .before .before .before .before .before .before .before .before .before .before .before) .few, c .before .before .before .before .recut .ensures .few, c .before .before .before .before .before .before .before .before .before .before .before .before .before .before .before .before .before .before .pre .1 .1), rw (rest-from, rest-from) (back-movable (fine (c .before .before .before .before .before .before .before .before .before .before .before .before .before .before .before .before .before .before)) (c .before .before .before .before .before .before .before .before .before .before .before .before .before .before .front-count .result) (c .before .before .before .before .recut .result .passed) (rw rest-from at (c .before .before .before .before .recut .ensures) .movable)))
+
+add-if1 : tie.Need-add-if1
+add-if1 c = omega (arith, kept-fits (c .before .before .before .before .before .before .before .before .before .before .before .before .before .before .before .before .before), fine (c .before .before .before .before .before .before .before .before .before .before .before .before .before .before .before .before .before .before .before .before .before) .few, c .before .before .before .before .before .before .before .recut .ensures .few, c .before .before .before .before .before .before .before .before .before .before .before .before .before .before .before .before .before .before .before .before .before .pre .1 .1)
 
 same-length : tie.Need-same-length
 same-length c = search needs
 
 returns : tie.Need-returns
-returns c = front-full (newCutsOf (c .before .before .before .before .before .before .before .before .before .args .settings) (c .before .before .before .before .before .before .before .before .before .args .log .now)) (c .before .before .before .before .before .before .before .before .before .args .d) (c .before .before .before .before .before .before .before .before .before .args .e) (kept-known (c .before .before .before)) (c .if1 .taken)
-
-last-of-requires : tie.Need-last-of-requires
-last-of-requires c κs = kept-known (c .before .before .before) .within
-
-recut-requires : tie.Need-recut-requires
-recut-requires c κs = (c .before .before .before .before .before .before .before .before .before .before .before .pre .0 .0, ((kept-known (c .before .before .before .before .before) .within, c .before .before .if1 .left, fine (c .before .before .before .before .before .before .before .before .before .before .before) .rises), (omega (arith, fine (c .before .before .before .before .before .before .before .before .before .before .before) .place-low), omega (arith, fine (c .before .before .before .before .before .before .before .before .before .before .before) .taken-low, c .before .before .before .before .before .before .before .before .before .before .before .pre .1 .1))))
+returns c = parts-full (done (c .before .before .before)) (rw (rest-from, rest-from) at (c .if1 .taken))
 
 same-length-2 : tie.Need-same-length-2
 same-length-2 c = search needs
 
 returns-2 : tie.Need-returns-2
-returns-2 c = recut-full (newCutsOf (c .before .before .before .before .before .before .before .before .before .before .before .before .before .before .before .args .settings) (c .before .before .before .before .before .before .before .before .before .before .before .before .before .before .before .args .log .now)) (c .before .before .before .before .before .before .before .before .before .before .before .before .before .before .before .args .d) (c .before .before .before .before .before .before .before .before .before .before .before .before .before .before .before .args .e) (kept-known (c .before .before .before .before .before .before .before .before .before)) (c .before .before .before .before .before .before .if1 .left) (c .before .before .before .before .before .last-of .ensures) (c .before .before .before .recut .ensures) (c .if2 .taken)
-
-add-at : tie.Need-add-at
-add-at c = omega (arith, ready (c .before .before .before) (c .if2 .left) .fits, c .before .before .before .before .before .before .before .before .before .before .before .before .before .before .before .good .1 .1 .1 .1 .1 .1 .0)
-
-sub-left : tie.Need-sub-left
-sub-left c = ready (c .before .before .before) (c .if2 .left) .within
-
-copy-moved-requires-2 : tie.Need-copy-moved-requires-2
-copy-moved-requires-2 c κs = ((omega (arith, ready (c .before .before .before .before) (c .before .if2 .left) .within), omega (arith, ready (c .before .before .before .before) (c .before .if2 .left) .fits, ready (c .before .before .before .before) (c .before .if2 .left) .room)), back-movable (fine (c .before .before .before .before .before .before .before .before .before .before .before .before .before .before .before .before)) (length (c .before .before .before .before .before .before .before .before .before .before .before .before .before .before .before .before .args .old .now) - c .before .before .before .before .recut .result .place) (c .before .before .before .before .recut .result .place) (ready (c .before .before .before .before) (c .before .if2 .left) .movable))
-
-sub-if3 : tie.Need-sub-if3
-sub-if3 c = omega (arith, ready (c .before .before .before .before .before .before .before) (c .before .before .before .before .if2 .left) .fits, ready (c .before .before .before .before .before .before .before) (c .before .before .before .before .if2 .left) .room, (c .before .before .copy-moved2 .kept .1 .1 .1 .1 .1 .0))
-
-same-length-3 : tie.Need-same-length-3
-same-length-3 c = search needs
-
-returns-3 : tie.Need-returns-3
-returns-3 c = back-full (ready (c .before .before .before .before .before .before .before .before) (c .before .before .before .before .before .if2 .left)) (c .before .before .before .copy-moved2 .ensures) (c .before .before .before .copy-moved2 .kept .1 .1 .1 .1 .1 .0) (c .if3 .taken)
-
-same-length-4 : tie.Need-same-length-4
-same-length-4 c = search needs
-
-returns-4 : tie.Need-returns-4
-returns-4 c = all-written (ready (c .before .before .before .before .before .before .before .before) (c .before .before .before .before .before .if2 .left)) (c .before .before .before .copy-moved2 .ensures) (c .before .before .before .copy-moved2 .kept .1 .1 .1 .1 .1 .0) (c .if3 .left)
+returns-2 c = rw (rest-from, rest-from) (parts-fit (done (c .before .before .before)) (rw (rest-from, rest-from) at (c .if1 .left)))
 
 pub write-parts-spec : {M : Type 1} → statement M
 write-parts-spec =
     tie.close
     (tie.spec
     front-count-requires
-    copy-moved-requires
+    slice-aggregate-front
+    nothing-requires
+    put-moved-requires
+    last-of-requires
+    mul-past
+    sub-past
+    part-past-start
+    part-past-end
+    recut-requires
+    mul-back
+    sub-back
+    part-back-start
+    part-back-end
+    add-at
+    put-moved-requires-2
+    add-if1
     same-length
     returns
-    last-of-requires
-    recut-requires
     same-length-2
-    returns-2
-    add-at
-    sub-left
-    copy-moved-requires-2
-    sub-if3
-    same-length-3
-    returns-3
-    same-length-4
-    returns-4)
+    returns-2)

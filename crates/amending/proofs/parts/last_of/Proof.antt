@@ -1,12 +1,12 @@
--- `amending::last_of` meets its contract.
+-- `amending::parts::last_of` meets its contract.
 use mathlib.Core.Path.{sym}
 use borrow.Author.Needs.{needs}
-use Rattle.amending.proofs.Places.{last-none, last-taken}
-use Rattle.amending.proofs.last_of.Statement.{statement}
-use Rattle.amending.proofs.last_of.Tie as tie
+use Rattle.amending.proofs.Places.{last-none, last-at}
+use Rattle.amending.proofs.parts.last_of.Statement.{statement}
+use Rattle.amending.proofs.parts.last_of.Tie as tie
 
 returns : tie.Need-returns
-returns c = sym (last-none _ _ (c .if1 .taken))
+returns c = sym (last-none _ (c .if1 .taken))
 
 sub-result : tie.Need-sub-result
 sub-result c = search needs
@@ -18,7 +18,7 @@ shared-slice-read-result : tie.Need-shared-slice-read-result
 shared-slice-read-result c = search needs
 
 returns-2 : tie.Need-returns-2
-returns-2 c = sym (last-taken _ _ (c .before .if1 .left) (c .before .before .pre))
+returns-2 c = sym (last-at 0 _ (search needs))
 
 pub last-of-spec : {M : Type 1} → statement M
 last-of-spec =

@@ -1,0 +1,79 @@
+-- Demand 3 over bytes: new bytes outside the recut stretch cannot alter the answer.
+use Prim.Native.Nat.{ℕ, _+_, _-_, _≤_, _<_}
+use mathlib.Core.Path.{_≡_, sym, ap, _∙_}
+use mathlib.Core.Bool.{true}
+use mathlib.Core.List.{List}
+use native.Mathlib.Omega.{arith}
+use lib.ListN.{length, getD}
+use Rattle.laws.specs.Last.{lastOr}
+use Rattle.laws.proofs.Cases.{by-lt, by-test}
+use Rattle.terms.specs.declared.Settings.{Settings}
+use Rattle.terms.specs.declared.Refusal.{Refusal}
+use Rattle.terms.specs.Settings.{inRange}
+use Rattle.terms.proofs.Ranges.{ranges}
+use Rattle.lists.specs.WellFormed.{wellFormed, lengthOf}
+use Rattle.rule.specs.Rule.{cutsFrom}
+use Rattle.cutting.specs.Marks.{mark}
+use Rattle.cutting.specs.WholeLog.{writtenList}
+use Rattle.cutting.proofs.Marked.{mark-past, marks-by-bytes}
+use Rattle.amending.specs.declared.edits.Edit.{Edit}
+use Rattle.amending.specs.declared.Amendment.the-variants.{Refused}
+use Rattle.amending.specs.Parts.{front, restart, stretchEnd, recut, back, amendedList}
+use Rattle.amending.specs.Answers.{newCutsOf, editFits, partsAnswer, judged, amendAnswer, amendList}
+use Rattle.amending.proofs.Front.{front-is, restarts-low}
+use Rattle.amending.proofs.Fitting.{edit-told}
+use Rattle.amending.proofs.Stretch.{parts-same}
+
+-- what follows the rows matters only where they are passed
+judged-same : {A : Type 0} (settings : Settings) (old : List ℕ) (edit : Edit) (bytes room : ℕ) (refused : Refusal → A) {x y : A}
+    → (inRange settings ≡ true → editFits (lengthOf old) edit bytes ≡ true → x ≡ y) → judged settings old edit bytes room refused x ≡ judged settings old edit bytes room refused y
+unfolding judged
+judged-same settings old edit bytes room refused same =
+    by-test (inRange settings)
+    (λ ok. by-test (editFits (lengthOf old) edit bytes) (λ fits. ap (judged settings old edit bytes room refused) (same ok fits))
+    (λ bad. by-test (wellFormed (settings .minimum) (settings .maximum) old) (λ formed. rw (ok, formed, bad)) (λ malformed. rw (ok, malformed))))
+    (λ bad. rw bad)
+
+-- two new logs of one length that agree on the recut stretch get the same answer, and leave the same list, from any old list
+module _ (settings : Settings) (old : List ℕ) (edit : Edit) (log log′ : List ℕ) (same : length log ≡ length log′)
+    (agree : (i : ℕ) → restart (edit .at) old ≤ i → i < stretchEnd (newCutsOf settings log) old edit (length log) → getD log i 0 ≡ getD log′ i 0) where
+  marks-between : (q : ℕ) → restart (edit .at) old + 48 ≤ q → q ≤ stretchEnd (newCutsOf settings log) old edit (length log) → mark settings log q ≡ mark settings log′ q
+  marks-between q low high =
+      by-lt (length log) q
+      (λ past. mark-past settings log q past ∙ sym (mark-past settings log′ q (omega arith)))
+      (λ inside. marks-by-bytes settings log log′ q q (omega arith) inside (omega arith) (omega arith) (λ i k. agree (q - 48 + i) (omega arith) (omega arith)))
+
+  -- the answer and the list are made of the parts
+  module _ (ok : inRange settings ≡ true) (fits : editFits (lengthOf old) edit (length log) ≡ true) where
+    restart-inside : restart (edit .at) old ≤ length log
+    unfolding restart
+    restart-inside =
+        let told = edit-told (lengthOf old) edit (length log) fits in
+        let low : lastOr 0 (front (edit .at) old) ≤ edit .at = restarts-low (omega arith) (front-is (edit .at) old) in
+        omega arith
+
+    parts : (recut (newCutsOf settings log) old edit ≡ recut (newCutsOf settings log′) old edit) × (back (newCutsOf settings log) old edit ≡ back (newCutsOf settings log′) old edit)
+    parts =
+        let in-range = ranges settings ok in
+        let (recuts, backs) =
+        parts-same (mark settings log) (mark settings log′) (settings .minimum) (settings .maximum) (length log) (omega (arith, in-range .window-fits)) (in-range .ordered) old edit restart-inside
+        (λ q low high. marks-between q (omega (arith, in-range .window-fits)) high) in (
+          recuts ∙ ap (λ n. recut (cutsFrom (mark settings log′) (settings .minimum) (settings .maximum) n) old edit) same,
+          backs ∙ ap (λ n. back (cutsFrom (mark settings log′) (settings .minimum) (settings .maximum) n) old edit) same,
+        )
+
+    list-same : amendedList (newCutsOf settings log) old edit ≡ amendedList (newCutsOf settings log′) old edit
+    unfolding amendedList
+    list-same = rw (parts .0, parts .1)
+
+    answer-same : (room : ℕ) → partsAnswer (newCutsOf settings log) old edit room ≡ partsAnswer (newCutsOf settings log′) old edit room
+    unfolding partsAnswer amendedList
+    answer-same room = rw (parts .0, parts .1)
+
+  pub stretch-only-answer : (room : ℕ) → amendAnswer settings old edit log room ≡ amendAnswer settings old edit log′ room
+  unfolding amendAnswer
+  stretch-only-answer room = judged-same settings old edit (length log) room Refused (λ ok fits. answer-same ok fits room) ∙ rw same
+
+  pub stretch-only-list : (list : List ℕ) → amendList settings old edit log list ≡ amendList settings old edit log′ list
+  unfolding amendList
+  stretch-only-list list = judged-same settings old edit (length log) (length list) (λ why. list) (λ ok fits. ap (λ l. writtenList l list) (list-same ok fits)) ∙ rw same

@@ -1,0 +1,109 @@
+-- `amending::recutting::recut` meets its contract. The invariant: proofs/Recuts.antt.
+use Prim.Native.Nat.{_-_}
+use native.Mathlib.Omega.{arith}
+use lib.ListN.{length}
+use borrow.Author.Needs.{needs}
+use Rattle.laws.proofs.Slices.{rest-from}
+use Rattle.rule.specs.Rule.{cutsFrom}
+use Rattle.rule.proofs.Chain.{Rising}
+use Rattle.cutting.specs.Marks.{nextCut}
+use Rattle.cutting.proofs.Marked.{log-rising}
+use Rattle.amending.proofs.Looking.{ascends-after}
+use Rattle.amending.proofs.Recuts.{Recuts, recuts-none, same-room, recut-ended, recut-met, recut-more}
+use Rattle.amending.proofs.recutting.recut.Statement.{statement}
+use Rattle.amending.proofs.recutting.recut.Tie as tie
+
+abbrev Inv-loop : tie.InvT-loop
+Inv-loop settings past from edit log list₀ kept leaving pushed cut₀ passed₀ count₀ list cut passed count =
+    Recuts (nextCut settings log) (length log) edit past kept list₀ from list cut passed count
+
+abbrev μ-loop : tie.MeasureT-loop
+μ-loop settings past from edit log list₀ kept leaving pushed cut₀ passed₀ count₀ list cut passed count = length log - cut
+
+rising : (c : tie.Start Inv-loop μ-loop) → Rising (nextCut (c .args .settings) (c .args .log .now)) (length (c .args .log .now))
+rising c = log-rising _ _ (c .pre .0 .0)
+
+leaving-requires : tie.Need-leaving-requires Inv-loop μ-loop
+leaving-requires c κs = search needs
+
+pushed-requires : tie.Need-pushed-requires Inv-loop μ-loop
+pushed-requires c κs = search needs
+
+loop-holds : tie.Need-loop-holds Inv-loop μ-loop
+loop-holds c = recuts-none _ _ _ _ _ _ _
+
+next-cut-requires : tie.Need-next-cut-requires Inv-loop μ-loop
+next-cut-requires c κs = (c .before .before .before .before .before .before .before .before .before .pre .0 .0, (c .before .before .loop-test .taken, (c .before .before .before .before .before .leaving .ensures, c .before .before .before .before .pushed .ensures)))
+
+mul-look : tie.Need-mul-look Inv-loop μ-loop
+mul-look c = search needs
+
+sub-look : tie.Need-sub-look Inv-loop μ-loop
+sub-look c = search needs
+
+part-look-start : tie.Need-part-look-start Inv-loop μ-loop
+part-look-start c = search needs
+
+part-look-end : tie.Need-part-look-end Inv-loop μ-loop
+part-look-end c = search needs
+
+look-requires : tie.Need-look-requires Inv-loop μ-loop
+look-requires c κs = (rw rest-from (ascends-after (c .before .before .before .before .before .loop .passed) (c .before .before .before .before .before .before .before .before .before .before .before .args .past .now) (c .before .before .before .before .before .before .before .before .before .before .before .pre .0 .1)), (c .before .before .before .before .before .before .before .before .before .before .before .pre .1 .0, omega (arith, rising (c .before .before .before .before .before .before .before .before .before .before .before) .within _ (c .before .before .before .before .loop-test .taken), c .before .next-cut .ensures, c .before .before .before .before .before .before .before .before .before .before .before .pre .1 .1)))
+
+add-passed : tie.Need-add-passed Inv-loop μ-loop
+add-passed c = search needs
+
+same-length : tie.Need-same-length Inv-loop μ-loop
+same-length c = same-room (c .before .before .before .before .before .before .before .before .loop .inv)
+
+returns : tie.Need-returns Inv-loop μ-loop
+unfolding cutsFrom
+returns c = recut-met (c .before .before .before .before .before .before .before .before .loop .inv) (rising (c .before .before .before .before .before .before .before .before .before .before .before .before .before .before)) (c .before .before .before .before .before .before .before .loop-test .taken) _ (c .before .before .before .before .next-cut .ensures) (rw rest-from at (c .before .before .look .ensures)) (c .before .before .before .before .before .before .before .before .before .before .before .before .before .before .pre .0 .1) (c .if1 .taken)
+
+add-put : tie.Need-add-put Inv-loop μ-loop
+add-put c = search needs
+
+put-requires : tie.Need-put-requires Inv-loop μ-loop
+put-requires c κs = search needs
+
+add-count : tie.Need-add-count Inv-loop μ-loop
+add-count c = search needs
+
+loop-less : tie.Need-loop-less Inv-loop μ-loop
+loop-less c = omega (arith, rising (c .before .before .before .before .before .before .before .before .before .before .before .before .before .before .before .before .before .before) .rises _ (c .before .before .before .before .before .before .before .before .before .before .before .loop-test .taken), c .before .before .before .before .before .before .before .before .next-cut .ensures, c .before .before .before .before .before .before .before .before .before .before .before .loop-test .taken)
+
+loop-again : tie.Need-loop-again Inv-loop μ-loop
+loop-again c = rw (c .before .before .put .ensures) (recut-more (c .before .before .before .before .before .before .before .before .before .before .before .before .loop .inv) (rising (c .before .before .before .before .before .before .before .before .before .before .before .before .before .before .before .before .before .before)) (c .before .before .before .before .before .before .before .before .before .before .before .loop-test .taken) _ (c .before .before .before .before .before .before .before .before .next-cut .ensures) (rw rest-from at (c .before .before .before .before .before .before .look .ensures)) (c .before .before .before .before .if1 .left))
+
+same-length-2 : tie.Need-same-length-2 Inv-loop μ-loop
+same-length-2 c = same-room (c .before .loop .inv)
+
+returns-2 : tie.Need-returns-2 Inv-loop μ-loop
+unfolding cutsFrom
+returns-2 c = recut-ended (c .before .loop .inv) (c .loop-test .left)
+
+pub recut-spec : {M : Type 1} → statement M
+recut-spec =
+    tie.close
+    (tie.spec
+    Inv-loop
+    μ-loop
+    leaving-requires
+    pushed-requires
+    loop-holds
+    next-cut-requires
+    mul-look
+    sub-look
+    part-look-start
+    part-look-end
+    look-requires
+    add-passed
+    same-length
+    returns
+    add-put
+    put-requires
+    add-count
+    loop-less
+    loop-again
+    same-length-2
+    returns-2)
