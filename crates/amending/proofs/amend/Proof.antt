@@ -29,27 +29,15 @@ asked c = c .fits2 .ensures ∙ ap (λ n. editFits n (c .before .before .before 
 edited : (c : tie.Else3) → editFits (lengthOf (c .before .before .before .before .before .before .before .before .before .before .args .old .now)) (c .before .before .before .before .before .before .before .before .before .before .args .edit) (length (c .before .before .before .before .before .before .before .before .before .before .args .log .now)) ≡ true
 edited c = test-passed (asked (c .before)) (c .if3 .left)
 
-in-range-requires : tie.Need-in-range-requires
-in-range-requires c κs = search needs
-
 returns : tie.Need-returns
 unfolding amendAnswer amendList judged
 returns c = let bad = test-failed (c .before .in-range .ensures) (c .if1 .taken) in (rw bad, rw bad)
-
-well-formed-requires : tie.Need-well-formed-requires
-well-formed-requires c κs = search needs
 
 returns-2 : tie.Need-returns-2
 unfolding amendAnswer amendList judged
 returns-2 c =
     let bad = test-failed (c .before .well-formed .ensures) (c .if2 .taken) in
     (rw (ranged (c .before .before), bad), rw (ranged (c .before .before), bad))
-
-last-of-requires : tie.Need-last-of-requires
-last-of-requires c κs = search needs
-
-fits-requires : tie.Need-fits-requires
-fits-requires c κs = search needs
 
 returns-3 : tie.Need-returns-3
 unfolding amendAnswer amendList judged
@@ -79,9 +67,6 @@ returns-5 c =
 write-parts-requires : tie.Need-write-parts-requires
 write-parts-requires c κs = ((ranged (c .before .before .before .before .before .before .before .before), formed (c .before .before .before .before .before .before)), (edited (c .before .before .before), c .before .before .if4 .left))
 
-same-length : tie.Need-same-length
-same-length c = search needs
-
 returns-6 : tie.Need-returns-6
 unfolding amendAnswer amendList judged
 returns-6 c =
@@ -92,18 +77,5 @@ returns-6 c =
 pub amend-spec : {M : Type 1} → statement M
 amend-spec =
     tie.close
-    (tie.spec
-    in-range-requires
-    returns
-    well-formed-requires
-    returns-2
-    last-of-requires
-    fits-requires
-    returns-3
-    returns-4
-    div-if5
-    add-if5
-    returns-5
-    write-parts-requires
-    same-length
-    returns-6)
+    (tie.spec (λ c κs. search needs) returns (λ c κs. search needs) returns-2 (λ c κs. search needs) (λ c κs. search needs) returns-3
+    returns-4 div-if5 add-if5 returns-5 write-parts-requires (λ c. search needs) returns-6)

@@ -31,14 +31,8 @@ front-count-requires c κs = omega (arith, fine (c .before .before .before) .pla
 slice-aggregate-front : tie.Need-slice-aggregate-front
 slice-aggregate-front c = sym (length-take-le _ _ (kept-fits (c .before)))
 
-nothing-requires : tie.Need-nothing-requires
-nothing-requires c κs = search needs
-
 put-moved-requires : tie.Need-put-moved-requires
 put-moved-requires c κs = (omega (arith, kept-fits (c .before .before .before), fine (c .before .before .before .before .before .before .before) .few, length-take (c .before .before .before .front-count .result) (c .before .before .before .before .before .before .before .args .old .now)), rw (c .before .nothing .ensures) (front-movable (fine (c .before .before .before .before .before .before .before)) (c .before .before .before .front-count .result)))
-
-last-of-requires : tie.Need-last-of-requires
-last-of-requires c κs = search needs
 
 mul-past : tie.Need-mul-past
 mul-past c = omega (arith, kept-fits (c .before .before .before .before .before .before .before), c .before .before .before .before .before .before .before .before .before .before .before .good)
@@ -49,23 +43,8 @@ sub-past c = omega (arith, kept-fits (c .before .before .before .before .before 
 part-past-start : tie.Need-part-past-start
 part-past-start c = kept-fits (c .before .before .before .before .before .before .before)
 
-part-past-end : tie.Need-part-past-end
-part-past-end c = search needs
-
 recut-requires : tie.Need-recut-requires
 recut-requires c κs = ((c .before .before .before .before .before .before .before .before .before .before .before .before .before .pre .0 .0, rw rest-from (ascends-after (c .before .before .before .before .before .before .before .before .before .front-count .result) (c .before .before .before .before .before .before .before .before .before .before .before .before .before .args .old .now) (fine (c .before .before .before .before .before .before .before .before .before .before .before .before .before) .rises))), (omega (arith, fine (c .before .before .before .before .before .before .before .before .before .before .before .before .before) .place-low), omega (arith, fine (c .before .before .before .before .before .before .before .before .before .before .before .before .before) .taken-low, c .before .before .before .before .before .before .before .before .before .before .before .before .before .pre .1 .1), omega (arith, kept-fits (c .before .before .before .before .before .before .before .before .before), fine (c .before .before .before .before .before .before .before .before .before .before .before .before .before) .few, c .before .before .before .before .before .before .before .before .before .before .before .before .before .pre .1 .1)))
-
-mul-back : tie.Need-mul-back
-mul-back c = search needs
-
-sub-back : tie.Need-sub-back
-sub-back c = search needs
-
-part-back-start : tie.Need-part-back-start
-part-back-start c = search needs
-
-part-back-end : tie.Need-part-back-end
-part-back-end c = search needs
 
 add-at : tie.Need-add-at
 add-at c = omega (arith, kept-fits (c .before .before .before .before .before .before .before .before .before .before .before .before .before), fine (c .before .before .before .before .before .before .before .before .before .before .before .before .before .before .before .before .before) .few, c .before .before .before .recut .ensures .few, c .before .before .before .before .before .before .before .before .before .before .before .before .before .before .before .before .before .pre .1 .1)
@@ -76,14 +55,8 @@ put-moved-requires-2 c κs = (omega (arith, kept-fits (c .before .before .before
 add-if1 : tie.Need-add-if1
 add-if1 c = omega (arith, kept-fits (c .before .before .before .before .before .before .before .before .before .before .before .before .before .before .before .before .before), fine (c .before .before .before .before .before .before .before .before .before .before .before .before .before .before .before .before .before .before .before .before .before) .few, c .before .before .before .before .before .before .before .recut .ensures .few, c .before .before .before .before .before .before .before .before .before .before .before .before .before .before .before .before .before .before .before .before .before .pre .1 .1)
 
-same-length : tie.Need-same-length
-same-length c = search needs
-
 returns : tie.Need-returns
 returns c = parts-full (done (c .before .before .before)) (rw (rest-from, rest-from) at (c .if1 .taken))
-
-same-length-2 : tie.Need-same-length-2
-same-length-2 c = search needs
 
 returns-2 : tie.Need-returns-2
 returns-2 c = rw (rest-from, rest-from) (parts-fit (done (c .before .before .before)) (rw (rest-from, rest-from) at (c .if1 .left)))
@@ -91,25 +64,6 @@ returns-2 c = rw (rest-from, rest-from) (parts-fit (done (c .before .before .bef
 pub write-parts-spec : {M : Type 1} → statement M
 write-parts-spec =
     tie.close
-    (tie.spec
-    front-count-requires
-    slice-aggregate-front
-    nothing-requires
-    put-moved-requires
-    last-of-requires
-    mul-past
-    sub-past
-    part-past-start
-    part-past-end
-    recut-requires
-    mul-back
-    sub-back
-    part-back-start
-    part-back-end
-    add-at
-    put-moved-requires-2
-    add-if1
-    same-length
-    returns
-    same-length-2
-    returns-2)
+    (tie.spec front-count-requires slice-aggregate-front (λ c κs. search needs) put-moved-requires (λ c κs. search needs) mul-past sub-past
+    part-past-start (λ c. search needs) recut-requires (λ c. search needs) (λ c. search needs) (λ c. search needs) (λ c. search needs)
+    add-at put-moved-requires-2 add-if1 (λ c. search needs) returns (λ c. search needs) returns-2)

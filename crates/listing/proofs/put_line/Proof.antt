@@ -9,17 +9,8 @@ use Rattle.listing.proofs.put_line.Lts as lts
 use Rattle.listing.proofs.put_number.Reads as put-number-reads
 
 -- src/main.rt:51:9
-put-number-requires : tie.Need-put-number-requires
-put-number-requires c κs = search needs
-
 -- src/main.rt:52:5
-slice-write-text : tie.Need-slice-write-text
-slice-write-text c = search needs
-
 -- src/main.rt:53:32
-add-put-number : tie.Need-add-put-number
-add-put-number c = search needs
-
 -- src/main.rt:53:9
 put-number-requires-2 : tie.Need-put-number-requires-2
 put-number-requires-2 c κs = simp length-set (omega (arith, c .before .before .before .put-number .kept .0, c .before .before .before .put-number .ensures))
@@ -29,26 +20,13 @@ slice-write-text-2 : tie.Need-slice-write-text-2
 slice-write-text-2 c = omega (arith, simp length-set at (c .before .before .put-number2 .kept .0), c .before .before .before .before .before .before .put-number .kept .0, c .before .before .put-number2 .ensures, c .before .before .before .before .before .before .put-number .ensures)
 
 -- src/main.rt:55:5
-add-result : tie.Need-add-result
-add-result c = search needs
-
 -- src/main.rt:47:1
 same-length : tie.Need-same-length
 same-length c = simp length-set (simp length-set at (c .before .before .put-number2 .kept .0) ∙ c .before .before .before .before .before .before .put-number .kept .0)
 
 -- src/main.rt:47:1
-returns : tie.Need-returns
-returns c = search needs
-
 pub put-line-spec : {M : Type 1} → statement M
 put-line-spec =
     tie.close
-    (tie.spec
-    put-number-requires
-    slice-write-text
-    add-put-number
-    put-number-requires-2
-    slice-write-text-2
-    add-result
-    same-length
-    returns)
+    (tie.spec (λ c κs. search needs) (λ c. search needs) (λ c. search needs) put-number-requires-2 slice-write-text-2 (λ c. search needs)
+    same-length (λ c. search needs))

@@ -23,24 +23,6 @@ few-digits n k low fewest =
 short : (c : tie.After-decimal) → c .decimal .result ≤ 20
 short c = few-digits (c .before .before .before .args .n) (c .decimal .result) (c .before .before .before .fits .n .fits) (c .decimal .ensures .1 .0)
 
-decimal-requires : tie.Need-decimal-requires
-decimal-requires c κs = search needs
-
-array-share-prefix-digits : tie.Need-array-share-prefix-digits
-array-share-prefix-digits c = search needs
-
-slice-aggregate-copy : tie.Need-slice-aggregate-copy
-slice-aggregate-copy c = search needs
-
-sub-copy : tie.Need-sub-copy
-sub-copy c = search needs
-
-part-copy-start : tie.Need-part-copy-start
-part-copy-start c = search needs
-
-part-copy-end : tie.Need-part-copy-end
-part-copy-end c = search needs
-
 copy-requires : tie.Need-copy-requires
 copy-requires c κs =
     let start = c .before .before .before .before .before in
@@ -49,23 +31,11 @@ copy-requires c κs =
 add-result : tie.Need-add-result
 add-result c = omega (arith, short (c .before .before .before .before .before), c .before .before .before .before .before .before .before .before .pre, c .before .before .before .before .before .before .before .before .good .0 .0)
 
-same-length : tie.Need-same-length
-same-length c = search needs
-
 returns : tie.Need-returns
 returns c = omega (arith, short (c .before .before .before .before .before))
 
 pub put-number-spec : {M : Type 1} → statement M
 put-number-spec =
     tie.close
-    (tie.spec
-    decimal-requires
-    array-share-prefix-digits
-    slice-aggregate-copy
-    sub-copy
-    part-copy-start
-    part-copy-end
-    copy-requires
-    add-result
-    same-length
-    returns)
+    (tie.spec (λ c κs. search needs) (λ c. search needs) (λ c. search needs) (λ c. search needs) (λ c. search needs) (λ c. search needs)
+    copy-requires add-result (λ c. search needs) returns)

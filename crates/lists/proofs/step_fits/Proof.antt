@@ -9,9 +9,6 @@ returns : tie.Need-returns
 unfolding stepFits
 returns c = simp (le-ltb _ _ (c .if1 .taken))
 
-sub-step : tie.Need-sub-step
-sub-step c = search needs
-
 returns-2 : tie.Need-returns-2
 unfolding stepFits
 returns-2 c = simp (lt-ltb _ _ (c .before .if1 .left), lt-leb _ _ (c .if2 .taken))
@@ -29,4 +26,4 @@ unfolding stepFits
 returns-5 c = simp (lt-ltb _ _ (c .before .before .before .if1 .left), le-leb _ _ (c .before .before .if2 .left), c .before .if3 .left, le-leb _ _ (c .if4 .left))
 
 pub step-fits-spec : {M : Type 1} → statement M
-step-fits-spec = tie.close (tie.spec returns sub-step returns-2 returns-3 returns-4 returns-5)
+step-fits-spec = tie.close (tie.spec returns (λ c. search needs) returns-2 returns-3 returns-4 returns-5)

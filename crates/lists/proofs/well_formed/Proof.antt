@@ -19,26 +19,8 @@ loop-holds : tie.Need-loop-holds Inv-loop μ-loop
 unfolding wellFormed
 loop-holds c = (search needs, refl)
 
-mul-entry : tie.Need-mul-entry Inv-loop μ-loop
-mul-entry c = search needs
-
-shared-slice-read-entry : tie.Need-shared-slice-read-entry Inv-loop μ-loop
-shared-slice-read-entry c = search needs
-
-add-step-fits : tie.Need-add-step-fits Inv-loop μ-loop
-add-step-fits c = search needs
-
-step-fits-requires : tie.Need-step-fits-requires Inv-loop μ-loop
-step-fits-requires c κs = search needs
-
 returns : tie.Need-returns Inv-loop μ-loop
 returns c = sym (c .before .before .before .before .loop .inv .1 ∙ step-refused _ _ _ _ _ _ (c .before .before .before .loop-test .taken) (c .before .step-fits .ensures) (not-true _ (c .if1 .taken)))
-
-add-i : tie.Need-add-i Inv-loop μ-loop
-add-i c = search needs
-
-loop-less : tie.Need-loop-less Inv-loop μ-loop
-loop-less c = search needs
 
 loop-again : tie.Need-loop-again Inv-loop μ-loop
 loop-again c = (search needs, c .before .before .before .before .loop .inv .1 ∙ step-passed _ _ _ _ _ _ (c .before .before .before .loop-test .taken) (c .before .step-fits .ensures) (not-false _ (c .if1 .left)))
@@ -52,17 +34,5 @@ returns-3 c = sym (c .before .before .loop .inv .1 ∙ steps-end _ _ _ _ _ (c .b
 pub well-formed-spec : {M : Type 1} → statement M
 well-formed-spec =
     tie.close
-    (tie.spec
-    Inv-loop
-    μ-loop
-    loop-holds
-    mul-entry
-    shared-slice-read-entry
-    add-step-fits
-    step-fits-requires
-    returns
-    add-i
-    loop-less
-    loop-again
-    returns-2
-    returns-3)
+    (tie.spec Inv-loop μ-loop loop-holds (λ c. search needs) (λ c. search needs) (λ c. search needs) (λ c κs. search needs) returns
+    (λ c. search needs) (λ c. search needs) loop-again returns-2 returns-3)

@@ -10,23 +10,11 @@ use Rattle.puts.proofs.Putting.{puts-long}
 use Rattle.recording.proofs.record_segment.Statement.{statement}
 use Rattle.recording.proofs.record_segment.Tie as tie
 
-leaving-requires : tie.Need-leaving-requires
-leaving-requires c κs = search needs
-
-pushed-requires : tie.Need-pushed-requires
-pushed-requires c κs = search needs
-
 mul-start : tie.Need-mul-start
 mul-start c = omega (arith, begins-below (c .before .before .before .before .args .size) (length (c .before .before .before .before .args .log .now)) (omega (arith, c .before .before .before .before .pre .1 .large)) (c .before .before .before .before .args .i) (c .before .before .before .before .pre .1 .there), c .before .before .before .before .pre .1 .short)
 
 end-of-requires : tie.Need-end-of-requires
 end-of-requires c κs = (omega (arith, begins-below (c .before .before .before .before .args .size) (length (c .before .before .before .before .args .log .now)) (omega (arith, c .before .before .before .before .pre .1 .large)) (c .before .before .before .before .args .i) (c .before .before .before .before .pre .1 .there)), c .before .before .before .before .pre .1 .short, c .before .before .before .before .pre .1 .bounded)
-
-sub-record-cuts : tie.Need-sub-record-cuts
-sub-record-cuts c = search needs
-
-part-record-cuts-start : tie.Need-part-record-cuts-start
-part-record-cuts-start c = search needs
 
 part-record-cuts-end : tie.Need-part-record-cuts-end
 part-record-cuts-end c = omega (arith, c .before .end-of .ensures)
@@ -64,21 +52,6 @@ returns-2 c = from-stretch _ (c .before .before .before .before .before .before 
 pub record-segment-spec : {M : Type 1} → statement M
 record-segment-spec =
     tie.close
-    (tie.spec
-    leaving-requires
-    pushed-requires
-    mul-start
-    end-of-requires
-    sub-record-cuts
-    part-record-cuts-start
-    part-record-cuts-end
-    record-cuts-requires
-    same-length
-    returns
-    sub-base
-    sub-record-marks
-    part-record-marks-start
-    part-record-marks-end
-    record-marks-requires
-    same-length-2
-    returns-2)
+    (tie.spec (λ c κs. search needs) (λ c κs. search needs) mul-start end-of-requires (λ c. search needs) (λ c. search needs)
+    part-record-cuts-end record-cuts-requires same-length returns sub-base sub-record-marks part-record-marks-start part-record-marks-end
+    record-marks-requires same-length-2 returns-2)

@@ -9,9 +9,6 @@ use Rattle.signature.specs.Signatures.{signatureOf}
 use Rattle.signature.proofs.of_array.Statement.{statement}
 use Rattle.signature.proofs.of_array.Tie as tie
 
-of-window-requires : tie.Need-of-window-requires
-of-window-requires c κs = search needs
-
 returns : tie.Need-returns
 returns c =
     let bytes = c .before .before .args .bytes .now in
@@ -19,4 +16,4 @@ returns c =
     c .of-window .ensures ∙ ap signatureOf (take-all 48 bytes short)
 
 pub of-array-spec : {M : Type 1} → statement M
-of-array-spec = tie.close (tie.spec of-window-requires returns)
+of-array-spec = tie.close (tie.spec (λ c κs. search needs) returns)

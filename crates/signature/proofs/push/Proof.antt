@@ -13,15 +13,6 @@ use Rattle.signature.proofs.Windows.{grown-by-shifts}
 use Rattle.signature.proofs.push.Statement.{statement}
 use Rattle.signature.proofs.push.Tie as tie
 
-cast-out : tie.Need-cast-out
-cast-out c = search needs
-
-mul-result : tie.Need-mul-result
-mul-result c = search needs
-
-element-copy-out-result : tie.Need-element-copy-out-result
-element-copy-out-result c = search needs
-
 returns : tie.Need-returns
 unfolding pushedTable
 returns c =
@@ -31,4 +22,4 @@ returns c =
     ∙ getD-tabulate (λ b. rem degree lowPart (b * 2 ^ degree)) 256 (s / 2 ^ 23) (shr-lt 8 23 (c .before .pre .0)))
 
 pub push-spec : {M : Type 1} → statement M
-push-spec = tie.close (tie.spec cast-out mul-result element-copy-out-result returns)
+push-spec = tie.close (tie.spec (λ c. search needs) (λ c. search needs) (λ c. search needs) returns)

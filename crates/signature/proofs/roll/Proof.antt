@@ -11,15 +11,6 @@ use Rattle.signature.specs.Signatures.{degree, lowPart, span, rolled, le
 use Rattle.signature.proofs.roll.Statement.{statement}
 use Rattle.signature.proofs.roll.Tie as tie
 
-push-requires : tie.Need-push-requires
-push-requires c κs = search needs
-
-mul-result : tie.Need-mul-result
-mul-result c = search needs
-
-element-copy-out-result : tie.Need-element-copy-out-result
-element-copy-out-result c = search needs
-
 returns : tie.Need-returns
 unfolding rolled leavingTable
 returns c =
@@ -29,4 +20,4 @@ returns c =
     ∙ getD-tabulate (λ b. rem degree lowPart (b * 2 ^ (8 * span))) 256 (a .leaves) (c .before .before .fits .leaves .fits))
 
 pub roll-spec : {M : Type 1} → statement M
-roll-spec = tie.close (tie.spec push-requires mul-result element-copy-out-result returns)
+roll-spec = tie.close (tie.spec (λ c κs. search needs) (λ c. search needs) (λ c. search needs) returns)

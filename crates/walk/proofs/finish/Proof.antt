@@ -8,20 +8,11 @@ use Rattle.walk.proofs.finish.Tie as tie
 force-cuts-requires : tie.Need-force-cuts-requires
 force-cuts-requires c κs = (c .before .before .pre .0, c .before .before .pre .1, c .before .before .pre .2)
 
-same-length : tie.Need-same-length
-same-length c = search needs
-
 returns : tie.Need-returns
 returns c = end-cut _ _ _ _ _ _ (c .before .before .before .before .before .before .before .pre .0) (c .before .before .before .before .force-cuts .ensures) (c .if1 .taken)
 
-put-requires : tie.Need-put-requires
-put-requires c κs = search needs
-
 add-t12 : tie.Need-add-t12
 add-t12 c = omega (arith, c .before .before .before .before .before .before .before .before .before .force-cuts .ensures .behind, c .before .before .before .before .before .if1 .left)
-
-same-length-2 : tie.Need-same-length-2
-same-length-2 c = search needs
 
 returns-2 : tie.Need-returns-2
 returns-2 c = end-open _ _ _ _ _ _ (c .before .before .before .before .before .before .before .before .before .before .before .before .pre .0) (c .before .before .before .before .before .before .before .before .before .force-cuts .ensures) (c .before .before .before .before .before .if1 .left) (c .before .before .before .put .ensures)
@@ -29,4 +20,4 @@ returns-2 c = end-open _ _ _ _ _ _ (c .before .before .before .before .before .b
 pub finish-spec : {M : Type 1} → statement M
 finish-spec =
     tie.close
-    (tie.spec force-cuts-requires same-length returns put-requires add-t12 same-length-2 returns-2)
+    (tie.spec force-cuts-requires (λ c. search needs) returns (λ c κs. search needs) add-t12 (λ c. search needs) returns-2)

@@ -8,9 +8,6 @@ use Rattle.puts.proofs.Putting.{puts-are, puts-long}
 use Rattle.walk.proofs.walk_bay.Statement.{statement}
 use Rattle.walk.proofs.walk_bay.Tie as tie
 
-offsets-in-requires : tie.Need-offsets-in-requires
-offsets-in-requires c κs = search needs
-
 take-offsets-requires : tie.Need-take-offsets-requires
 take-offsets-requires c κs = (c .before .before .before .before .before .pre .0 .0, rw (c .before .before .offsets-in .ensures) (c .before .before .before .before .before .pre .1 .1))
 
@@ -19,9 +16,6 @@ same-length c = puts-long (c .before .before .take-offsets .ensures)
 
 returns : tie.Need-returns
 returns c = puts-are (c .before .before .before .before .before .offsets-in .ensures ∙ sym (first-bay _ _ _ _ _ (c .before .before .before .before .if1 .taken))) (c .before .before .take-offsets .ensures)
-
-shared-slice-read-read-as-marks : tie.Need-shared-slice-read-read-as-marks
-shared-slice-read-read-as-marks c = search needs
 
 read-as-marks-requires : tie.Need-read-as-marks-requires
 read-as-marks-requires c κs = (c .before .before .before .before .before .before .pre .0 .0, rw (c .before .before .before .offsets-in .ensures) (c .before .before .before .before .before .before .pre .1 .1), c .before .before .before .before .before .before .pre .0 .1)
@@ -38,12 +32,5 @@ returns-2 c =
 pub walk-bay-spec : {M : Type 1} → statement M
 walk-bay-spec =
     tie.close
-    (tie.spec
-    offsets-in-requires
-    take-offsets-requires
-    same-length
-    returns
-    shared-slice-read-read-as-marks
-    read-as-marks-requires
-    same-length-2
+    (tie.spec (λ c κs. search needs) take-offsets-requires same-length returns (λ c. search needs) read-as-marks-requires same-length-2
     returns-2)

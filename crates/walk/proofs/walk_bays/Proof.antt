@@ -37,9 +37,6 @@ walk-bay-requires c κs =
           (bay-within shape (here .i) (count .result) (count .ensures) (c .before .before .loop-test .taken)) (shape .wide) _ (c .before .bay-at .ensures),
     )
 
-add-i : tie.Need-add-i Inv-loop μ-loop
-add-i c = search needs
-
 loop-less : tie.Need-loop-less Inv-loop μ-loop
 loop-less c = omega (arith, c .before .before .before .before .before .loop-test .taken)
 
@@ -63,15 +60,5 @@ returns c = (all-walked (c .before .loop .inv) (c .loop-test .left) _ (c .before
 pub walk-bays-spec : {M : Type 1} → statement M
 walk-bays-spec =
     tie.close
-    (tie.spec
-    Inv-loop
-    μ-loop
-    segments-of-requires
-    loop-holds
-    bay-at-requires
-    walk-bay-requires
-    add-i
-    loop-less
-    loop-again
-    same-length
-    returns)
+    (tie.spec Inv-loop μ-loop segments-of-requires loop-holds bay-at-requires walk-bay-requires (λ c. search needs) loop-less loop-again
+    same-length returns)

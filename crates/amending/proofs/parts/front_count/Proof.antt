@@ -9,21 +9,12 @@ use Rattle.amending.proofs.parts.front_count.Tie as tie
 returns : tie.Need-returns
 returns c = sym (count-none _ _ (c .if1 .taken))
 
-sub-end : tie.Need-sub-end
-sub-end c = search needs
-
 slice-aggregate-climb : tie.Need-slice-aggregate-climb
 slice-aggregate-climb c = sym (length-take-le _ _ (search needs))
-
-add-climb : tie.Need-add-climb
-add-climb c = search needs
-
-climb-requires : tie.Need-climb-requires
-climb-requires c κs = search needs
 
 returns-2 : tie.Need-returns-2
 returns-2 c = c .climb .ensures ∙ count-is _ _ (c .before .before .if1 .left)
 
 pub front-count-spec : {M : Type 1} → statement M
 front-count-spec =
-    tie.close (tie.spec returns sub-end slice-aggregate-climb add-climb climb-requires returns-2)
+    tie.close (tie.spec returns (λ c. search needs) slice-aggregate-climb (λ c. search needs) (λ c κs. search needs) returns-2)

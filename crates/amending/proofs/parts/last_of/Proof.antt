@@ -8,18 +8,9 @@ use Rattle.amending.proofs.parts.last_of.Tie as tie
 returns : tie.Need-returns
 returns c = sym (last-none _ (c .if1 .taken))
 
-sub-result : tie.Need-sub-result
-sub-result c = search needs
-
-mul-result : tie.Need-mul-result
-mul-result c = search needs
-
-shared-slice-read-result : tie.Need-shared-slice-read-result
-shared-slice-read-result c = search needs
-
 returns-2 : tie.Need-returns-2
 returns-2 c = sym (last-at 0 _ (search needs))
 
 pub last-of-spec : {M : Type 1} → statement M
 last-of-spec =
-    tie.close (tie.spec returns sub-result mul-result shared-slice-read-result returns-2)
+    tie.close (tie.spec returns (λ c. search needs) (λ c. search needs) (λ c. search needs) returns-2)

@@ -21,29 +21,11 @@ abbrev μ-loop : tie.MeasureT-loop
 loop-holds : tie.Need-loop-holds Inv-loop μ-loop
 loop-holds c = (search needs, rw add-zero)
 
-add-put : tie.Need-add-put Inv-loop μ-loop
-add-put c = search needs
-
-mul-put : tie.Need-mul-put Inv-loop μ-loop
-mul-put c = search needs
-
-shared-slice-read-put : tie.Need-shared-slice-read-put Inv-loop μ-loop
-shared-slice-read-put c = search needs
-
 add-put-2 : tie.Need-add-put-2 Inv-loop μ-loop
 add-put-2 c = record { fits = c .before .before .before .before .before .before .before .pre .1 _ (c .before .before .before .loop-test .taken) .1 }
 
 sub-put : tie.Need-sub-put Inv-loop μ-loop
 sub-put c = c .before .before .before .before .before .before .before .before .pre .1 _ (c .before .before .before .before .loop-test .taken) .0
-
-put-requires : tie.Need-put-requires Inv-loop μ-loop
-put-requires c κs = search needs
-
-add-i : tie.Need-add-i Inv-loop μ-loop
-add-i c = search needs
-
-loop-less : tie.Need-loop-less Inv-loop μ-loop
-loop-less c = search needs
 
 loop-again : tie.Need-loop-again Inv-loop μ-loop
 loop-again c = (search needs, rw (c .before .before .put .ensures) (c .before .before .before .before .before .before .before .before .loop .inv .1 ∙ put-on _ _ _ _ _ (c .before .before .before .before .before .before .before .loop-test .taken)))
@@ -57,18 +39,5 @@ returns c = sym (c .before .loop .inv .1 ∙ put-end _ _ _ _ _ (c .loop-test .le
 pub put-moved-spec : {M : Type 1} → statement M
 put-moved-spec =
     tie.close
-    (tie.spec
-    Inv-loop
-    μ-loop
-    loop-holds
-    add-put
-    mul-put
-    shared-slice-read-put
-    add-put-2
-    sub-put
-    put-requires
-    add-i
-    loop-less
-    loop-again
-    same-length
-    returns)
+    (tie.spec Inv-loop μ-loop loop-holds (λ c. search needs) (λ c. search needs) (λ c. search needs) add-put-2 sub-put
+    (λ c κs. search needs) (λ c. search needs) (λ c. search needs) loop-again same-length returns)

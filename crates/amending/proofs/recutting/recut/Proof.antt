@@ -23,35 +23,14 @@ abbrev μ-loop : tie.MeasureT-loop
 rising : (c : tie.Start Inv-loop μ-loop) → Rising (nextCut (c .args .settings) (c .args .log .now)) (length (c .args .log .now))
 rising c = log-rising _ _ (c .pre .0 .0)
 
-leaving-requires : tie.Need-leaving-requires Inv-loop μ-loop
-leaving-requires c κs = search needs
-
-pushed-requires : tie.Need-pushed-requires Inv-loop μ-loop
-pushed-requires c κs = search needs
-
 loop-holds : tie.Need-loop-holds Inv-loop μ-loop
 loop-holds c = recuts-none _ _ _ _ _ _ _
 
 next-cut-requires : tie.Need-next-cut-requires Inv-loop μ-loop
 next-cut-requires c κs = (c .before .before .before .before .before .before .before .before .before .pre .0 .0, (c .before .before .loop-test .taken, (c .before .before .before .before .before .leaving .ensures, c .before .before .before .before .pushed .ensures)))
 
-mul-look : tie.Need-mul-look Inv-loop μ-loop
-mul-look c = search needs
-
-sub-look : tie.Need-sub-look Inv-loop μ-loop
-sub-look c = search needs
-
-part-look-start : tie.Need-part-look-start Inv-loop μ-loop
-part-look-start c = search needs
-
-part-look-end : tie.Need-part-look-end Inv-loop μ-loop
-part-look-end c = search needs
-
 look-requires : tie.Need-look-requires Inv-loop μ-loop
 look-requires c κs = (rw rest-from (ascends-after (c .before .before .before .before .before .loop .passed) (c .before .before .before .before .before .before .before .before .before .before .before .args .past .now) (c .before .before .before .before .before .before .before .before .before .before .before .pre .0 .1)), (c .before .before .before .before .before .before .before .before .before .before .before .pre .1 .0, omega (arith, rising (c .before .before .before .before .before .before .before .before .before .before .before) .within _ (c .before .before .before .before .loop-test .taken), c .before .next-cut .ensures, c .before .before .before .before .before .before .before .before .before .before .before .pre .1 .1)))
-
-add-passed : tie.Need-add-passed Inv-loop μ-loop
-add-passed c = search needs
 
 same-length : tie.Need-same-length Inv-loop μ-loop
 same-length c = same-room (c .before .before .before .before .before .before .before .before .loop .inv)
@@ -59,15 +38,6 @@ same-length c = same-room (c .before .before .before .before .before .before .be
 returns : tie.Need-returns Inv-loop μ-loop
 unfolding cutsFrom
 returns c = recut-met (c .before .before .before .before .before .before .before .before .loop .inv) (rising (c .before .before .before .before .before .before .before .before .before .before .before .before .before .before)) (c .before .before .before .before .before .before .before .loop-test .taken) _ (c .before .before .before .before .next-cut .ensures) (rw rest-from at (c .before .before .look .ensures)) (c .before .before .before .before .before .before .before .before .before .before .before .before .before .before .pre .0 .1) (c .if1 .taken)
-
-add-put : tie.Need-add-put Inv-loop μ-loop
-add-put c = search needs
-
-put-requires : tie.Need-put-requires Inv-loop μ-loop
-put-requires c κs = search needs
-
-add-count : tie.Need-add-count Inv-loop μ-loop
-add-count c = search needs
 
 loop-less : tie.Need-loop-less Inv-loop μ-loop
 loop-less c = omega (arith, rising (c .before .before .before .before .before .before .before .before .before .before .before .before .before .before .before .before .before .before) .rises _ (c .before .before .before .before .before .before .before .before .before .before .before .loop-test .taken), c .before .before .before .before .before .before .before .before .next-cut .ensures, c .before .before .before .before .before .before .before .before .before .before .before .loop-test .taken)
@@ -85,25 +55,6 @@ returns-2 c = recut-ended (c .before .loop .inv) (c .loop-test .left)
 pub recut-spec : {M : Type 1} → statement M
 recut-spec =
     tie.close
-    (tie.spec
-    Inv-loop
-    μ-loop
-    leaving-requires
-    pushed-requires
-    loop-holds
-    next-cut-requires
-    mul-look
-    sub-look
-    part-look-start
-    part-look-end
-    look-requires
-    add-passed
-    same-length
-    returns
-    add-put
-    put-requires
-    add-count
-    loop-less
-    loop-again
-    same-length-2
-    returns-2)
+    (tie.spec Inv-loop μ-loop (λ c κs. search needs) (λ c κs. search needs) loop-holds next-cut-requires (λ c. search needs)
+    (λ c. search needs) (λ c. search needs) (λ c. search needs) look-requires (λ c. search needs) same-length returns (λ c. search needs)
+    (λ c κs. search needs) (λ c. search needs) loop-less loop-again same-length-2 returns-2)

@@ -9,9 +9,6 @@ use Rattle.bays.proofs.Sound.{some-entry, too-many, sound-is}
 use Rattle.bays.proofs.judging.is_sound.Statement.{statement}
 use Rattle.bays.proofs.judging.is_sound.Tie as tie
 
-shared-slice-read-if1 : tie.Need-shared-slice-read-if1
-shared-slice-read-if1 c = search needs
-
 sub-if1 : tie.Need-sub-if1
 sub-if1 c = some-entry _ (c .before .before .pre .1 .1)
 
@@ -36,19 +33,10 @@ end-of-requires c κs =
     let below = begins-below (start .args .size) (start .args .n) (omega (arith, start .pre .0 .large)) (start .args .i) (start .pre .0 .there) in
     (omega arith, start .pre .0 .short, start .pre .0 .bounded)
 
-rises-within-requires : tie.Need-rises-within-requires
-rises-within-requires c κs = search needs
-
 returns-2 : tie.Need-returns-2
 returns-2 c =
     sym (sound-is _ _ _ _ _ _ (c .before .before .before .before .if1 .left) _ (c .before .before .end-of .ensures) _ (c .before .before .before .offsets-in .ensures)
     ∙ rw (test-failed (c .before .rises-within .ensures) (c .if2 .taken)))
-
-shared-slice-read-marker-fits : tie.Need-shared-slice-read-marker-fits
-shared-slice-read-marker-fits c = search needs
-
-marker-fits-requires : tie.Need-marker-fits-requires
-marker-fits-requires c κs = search needs
 
 returns-3 : tie.Need-returns-3
 returns-3 c =
@@ -60,16 +48,5 @@ returns-3 c =
 pub is-sound-spec : {M : Type 1} → statement M
 is-sound-spec =
     tie.close
-    (tie.spec
-    shared-slice-read-if1
-    sub-if1
-    sub-if1-2
-    returns
-    mul-start
-    offsets-in-requires
-    end-of-requires
-    rises-within-requires
-    returns-2
-    shared-slice-read-marker-fits
-    marker-fits-requires
-    returns-3)
+    (tie.spec (λ c. search needs) sub-if1 sub-if1-2 returns mul-start offsets-in-requires end-of-requires (λ c κs. search needs) returns-2
+    (λ c. search needs) (λ c κs. search needs) returns-3)

@@ -33,20 +33,8 @@ judge-bay-requires c κs =
       rw (c .bay-at .ensures, length-bay _ _ _ inside) (shape .wide),
     )
 
-enum-known-why : tie.Need-enum-known-why Inv-loop μ-loop
-enum-known-why c = search needs
-
 returns : tie.Need-returns Inv-loop μ-loop
 returns c = judged-whole _ _ _ _ _ (c .before .before .before .before .before .before .before .segments-of .ensures) (c .before .before .before .before .before .before .loop .inv .1 ∙ judged-denied _ _ _ _ _ _ _ (c .before .before .before .before .before .loop-test .taken) _ (c .before .before .before .before .bay-at .ensures) _ (c .before .before .before .judge-bay .ensures) _ (c .before .why .given .1))
-
-enum-told : tie.Need-enum-told Inv-loop μ-loop
-enum-told c = search needs
-
-add-i : tie.Need-add-i Inv-loop μ-loop
-add-i c = search needs
-
-loop-less : tie.Need-loop-less Inv-loop μ-loop
-loop-less c = search needs
 
 loop-again : tie.Need-loop-again Inv-loop μ-loop
 loop-again c = (search needs, c .before .before .before .before .before .loop .inv .1 ∙ judged-on _ _ _ _ _ _ _ (c .before .before .before .before .loop-test .taken) _ (c .before .before .before .bay-at .ensures) _ (c .before .before .judge-bay .ensures) (c .enum-told .given .1))
@@ -57,17 +45,5 @@ returns-2 c = judged-whole _ _ _ _ _ (c .before .before .segments-of .ensures) (
 pub judge-bays-spec : {M : Type 1} → statement M
 judge-bays-spec =
     tie.close
-    (tie.spec
-    Inv-loop
-    μ-loop
-    segments-of-requires
-    loop-holds
-    bay-at-requires
-    judge-bay-requires
-    enum-known-why
-    returns
-    enum-told
-    add-i
-    loop-less
-    loop-again
-    returns-2)
+    (tie.spec Inv-loop μ-loop segments-of-requires loop-holds bay-at-requires judge-bay-requires (λ c. search needs) returns
+    (λ c. search needs) (λ c. search needs) (λ c. search needs) loop-again returns-2)

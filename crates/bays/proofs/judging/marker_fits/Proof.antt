@@ -6,21 +6,15 @@ use Rattle.bays.proofs.Offsets.{first-marker, later-marker}
 use Rattle.bays.proofs.judging.marker_fits.Statement.{statement}
 use Rattle.bays.proofs.judging.marker_fits.Tie as tie
 
-marker-listed-requires : tie.Need-marker-listed-requires
-marker-listed-requires c κs = search needs
-
 returns : tie.Need-returns
 returns c = c .marker-listed .ensures ∙ sym (later-marker _ _ _ _ (c .before .if1 .taken))
 
 returns-2 : tie.Need-returns-2
 returns-2 c = sym (first-marker _ _ _ _ (c .before .if1 .left) ∙ rw (ne-eqb _ _ (c .if2 .taken)))
 
-steps-within-requires : tie.Need-steps-within-requires
-steps-within-requires c κs = search needs
-
 returns-3 : tie.Need-returns-3
 returns-3 c = c .steps-within .ensures ∙ sym (first-marker _ _ _ _ (c .before .before .if1 .left) ∙ rw (eq-eqb _ _ (c .before .if2 .left)))
 
 pub marker-fits-spec : {M : Type 1} → statement M
 marker-fits-spec =
-    tie.close (tie.spec marker-listed-requires returns returns-2 steps-within-requires returns-3)
+    tie.close (tie.spec (λ c κs. search needs) returns returns-2 (λ c κs. search needs) returns-3)

@@ -17,38 +17,8 @@ abbrev μ-loop : tie.MeasureT-loop
 loop-holds : tie.Need-loop-holds Inv-loop μ-loop
 loop-holds c = (search needs, refl)
 
-mul-if1 : tie.Need-mul-if1 Inv-loop μ-loop
-mul-if1 c = search needs
-
-shared-slice-read-if1 : tie.Need-shared-slice-read-if1 Inv-loop μ-loop
-shared-slice-read-if1 c = search needs
-
-add-steps-within : tie.Need-add-steps-within Inv-loop μ-loop
-add-steps-within c = search needs
-
-mul-steps-within : tie.Need-mul-steps-within Inv-loop μ-loop
-mul-steps-within c = search needs
-
-sub-steps-within : tie.Need-sub-steps-within Inv-loop μ-loop
-sub-steps-within c = search needs
-
-part-steps-within-start : tie.Need-part-steps-within-start Inv-loop μ-loop
-part-steps-within-start c = search needs
-
-part-steps-within-end : tie.Need-part-steps-within-end Inv-loop μ-loop
-part-steps-within-end c = search needs
-
-steps-within-requires : tie.Need-steps-within-requires Inv-loop μ-loop
-steps-within-requires c κs = search needs
-
 returns : tie.Need-returns Inv-loop μ-loop
 returns c = c .steps-within .ensures ∙ sym (c .before .before .before .before .before .loop .inv .1 ∙ marker-here _ _ (c .before .before .before .before .loop-test .taken) _ _ _ (c .before .before .if1 .taken))
-
-add-k : tie.Need-add-k Inv-loop μ-loop
-add-k c = search needs
-
-loop-less : tie.Need-loop-less Inv-loop μ-loop
-loop-less c = search needs
 
 loop-again : tie.Need-loop-again Inv-loop μ-loop
 loop-again c = (search needs, c .before .before .before .loop .inv .1 ∙ marker-on _ _ (c .before .before .loop-test .taken) _ _ _ (c .if1 .left))
@@ -59,20 +29,5 @@ returns-2 c = sym (c .before .loop .inv .1 ∙ marker-none _ _ (c .loop-test .le
 pub marker-listed-spec : {M : Type 1} → statement M
 marker-listed-spec =
     tie.close
-    (tie.spec
-    Inv-loop
-    μ-loop
-    loop-holds
-    mul-if1
-    shared-slice-read-if1
-    add-steps-within
-    mul-steps-within
-    sub-steps-within
-    part-steps-within-start
-    part-steps-within-end
-    steps-within-requires
-    returns
-    add-k
-    loop-less
-    loop-again
-    returns-2)
+    (tie.spec Inv-loop μ-loop loop-holds (λ c. search needs) (λ c. search needs) (λ c. search needs) (λ c. search needs) (λ c. search needs)
+    (λ c. search needs) (λ c. search needs) (λ c κs. search needs) returns (λ c. search needs) (λ c. search needs) loop-again returns-2)

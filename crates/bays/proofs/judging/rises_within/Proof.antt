@@ -19,23 +19,11 @@ abbrev μ-loop : tie.MeasureT-loop
 loop-holds : tie.Need-loop-holds Inv-loop μ-loop
 loop-holds c = (search needs, refl)
 
-mul-p : tie.Need-mul-p Inv-loop μ-loop
-mul-p c = search needs
-
-shared-slice-read-p : tie.Need-shared-slice-read-p Inv-loop μ-loop
-shared-slice-read-p c = search needs
-
 returns : tie.Need-returns Inv-loop μ-loop
 returns c = sym (c .before .before .before .loop .inv .1 ∙ rise-at _ _ (c .before .before .loop-test .taken) _ _ ∙ rw (le-ltb _ _ (c .if1 .taken)))
 
 returns-2 : tie.Need-returns-2 Inv-loop μ-loop
 returns-2 c = sym (c .before .before .before .before .loop .inv .1 ∙ rise-at _ _ (c .before .before .before .loop-test .taken) _ _ ∙ rw (lt-ltb _ _ (c .before .if1 .left), lt-leb _ _ (c .if2 .taken)))
-
-add-k : tie.Need-add-k Inv-loop μ-loop
-add-k c = search needs
-
-loop-less : tie.Need-loop-less Inv-loop μ-loop
-loop-less c = search needs
 
 loop-again : tie.Need-loop-again Inv-loop μ-loop
 loop-again c = (search needs, c .before .before .before .before .loop .inv .1 ∙ rise-at _ _ (c .before .before .before .loop-test .taken) _ _ ∙ rw (lt-ltb _ _ (c .before .if1 .left), le-leb _ _ (c .if2 .left)))
@@ -47,15 +35,5 @@ returns-3 c = sym (c .before .loop .inv .1 ∙ rw (drop-of-length-le _ (c .loop-
 pub rises-within-spec : {M : Type 1} → statement M
 rises-within-spec =
     tie.close
-    (tie.spec
-    Inv-loop
-    μ-loop
-    loop-holds
-    mul-p
-    shared-slice-read-p
-    returns
-    returns-2
-    add-k
-    loop-less
-    loop-again
-    returns-3)
+    (tie.spec Inv-loop μ-loop loop-holds (λ c. search needs) (λ c. search needs) returns returns-2 (λ c. search needs) (λ c. search needs)
+    loop-again returns-3)

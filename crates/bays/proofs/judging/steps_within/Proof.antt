@@ -19,23 +19,8 @@ abbrev μ-loop : tie.MeasureT-loop
 loop-holds : tie.Need-loop-holds Inv-loop μ-loop
 loop-holds c = (search needs, refl)
 
-mul-p : tie.Need-mul-p Inv-loop μ-loop
-mul-p c = search needs
-
-shared-slice-read-p : tie.Need-shared-slice-read-p Inv-loop μ-loop
-shared-slice-read-p c = search needs
-
-step-fits-requires : tie.Need-step-fits-requires Inv-loop μ-loop
-step-fits-requires c κs = search needs
-
 returns : tie.Need-returns Inv-loop μ-loop
 returns c = sym (c .before .before .before .before .loop .inv .1 ∙ step-at _ _ (c .before .before .before .loop-test .taken) _ _ _ ∙ rw (test-failed (c .before .step-fits .ensures) (c .if1 .taken)))
-
-add-k : tie.Need-add-k Inv-loop μ-loop
-add-k c = search needs
-
-loop-less : tie.Need-loop-less Inv-loop μ-loop
-loop-less c = search needs
 
 loop-again : tie.Need-loop-again Inv-loop μ-loop
 loop-again c = (search needs, c .before .before .before .before .loop .inv .1 ∙ step-at _ _ (c .before .before .before .loop-test .taken) _ _ _ ∙ rw (test-passed (c .before .step-fits .ensures) (c .if1 .left)))
@@ -47,15 +32,5 @@ returns-2 c = sym (c .before .loop .inv .1 ∙ rw (drop-of-length-le _ (c .loop-
 pub steps-within-spec : {M : Type 1} → statement M
 steps-within-spec =
     tie.close
-    (tie.spec
-    Inv-loop
-    μ-loop
-    loop-holds
-    mul-p
-    shared-slice-read-p
-    step-fits-requires
-    returns
-    add-k
-    loop-less
-    loop-again
-    returns-2)
+    (tie.spec Inv-loop μ-loop loop-holds (λ c. search needs) (λ c. search needs) (λ c κs. search needs) returns (λ c. search needs)
+    (λ c. search needs) loop-again returns-2)

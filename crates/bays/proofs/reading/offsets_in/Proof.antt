@@ -15,21 +15,12 @@ lent : (bay : List ℕ) → take (getD bay 0 0 - 1 + 2 - 2) (drop 2 bay) ≡ rec
 unfolding recordIn offsetCount
 lent bay = let same : getD bay 0 0 - 1 + 2 - 2 ≡ getD bay 0 0 - 1 = omega arith in ap (λ (k : ℕ). take k (drop 2 bay)) same
 
-shared-slice-read-count : tie.Need-shared-slice-read-count
-shared-slice-read-count c = search needs
-
 sub-count : tie.Need-sub-count
 sub-count c = some-entry _ (c .before .pre .1)
 
 add-result : tie.Need-add-result
 unfolding offsetCount
 add-result c = omega (arith, c .before .pre .2, c .before .good)
-
-sub-result : tie.Need-sub-result
-sub-result c = search needs
-
-part-result-start : tie.Need-part-result-start
-part-result-start c = search needs
 
 part-result-end : tie.Need-part-result-end
 unfolding offsetCount
@@ -41,11 +32,4 @@ returns c = lent _
 pub offsets-in-spec : {M : Type 1} → statement M
 offsets-in-spec =
     tie.close
-    (tie.spec
-    shared-slice-read-count
-    sub-count
-    add-result
-    sub-result
-    part-result-start
-    part-result-end
-    returns)
+    (tie.spec (λ c. search needs) sub-count add-result (λ c. search needs) (λ c. search needs) part-result-end returns)

@@ -7,9 +7,6 @@ use Rattle.bays.proofs.Ranges.{sizes}
 use Rattle.bays.proofs.shapes.bay_fits.Statement.{statement}
 use Rattle.bays.proofs.shapes.bay_fits.Tie as tie
 
-shape-fits-requires : tie.Need-shape-fits-requires
-shape-fits-requires c κs = search needs
-
 returns : tie.Need-returns
 unfolding bayFits
 returns c = rw (test-failed (c .before .shape-fits .ensures) (c .if1 .taken))
@@ -27,4 +24,4 @@ returns-3 c = rw (test-passed (c .before .before .before .shape-fits .ensures) (
 
 pub bay-fits-spec : {M : Type 1} → statement M
 bay-fits-spec =
-    tie.close (tie.spec shape-fits-requires returns segments-of-requires returns-2 returns-3)
+    tie.close (tie.spec (λ c κs. search needs) returns segments-of-requires returns-2 returns-3)

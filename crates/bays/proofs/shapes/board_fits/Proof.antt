@@ -8,9 +8,6 @@ use Rattle.bays.proofs.Ranges.{sizes, long-enough, too-few}
 use Rattle.bays.proofs.shapes.board_fits.Statement.{statement}
 use Rattle.bays.proofs.shapes.board_fits.Tie as tie
 
-shape-fits-requires : tie.Need-shape-fits-requires
-shape-fits-requires c κs = search needs
-
 returns : tie.Need-returns
 unfolding boardFits
 returns c = rw (test-failed (c .before .shape-fits .ensures) (c .if1 .taken))
@@ -32,4 +29,4 @@ returns-3 c = let fine = test-passed (c .before .before .before .shape-fits .ens
 pub board-fits-spec : {M : Type 1} → statement M
 board-fits-spec =
     tie.close
-    (tie.spec shape-fits-requires returns div-if2 segments-of-requires returns-2 returns-3)
+    (tie.spec (λ c κs. search needs) returns div-if2 segments-of-requires returns-2 returns-3)

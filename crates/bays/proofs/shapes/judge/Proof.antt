@@ -6,9 +6,6 @@ use Rattle.bays.specs.Judging.{judged}
 use Rattle.bays.proofs.shapes.judge.Statement.{statement}
 use Rattle.bays.proofs.shapes.judge.Tie as tie
 
-in-range-requires : tie.Need-in-range-requires
-in-range-requires c κs = search needs
-
 returns : tie.Need-returns
 unfolding judged
 returns c = rw (test-failed (c .before .in-range .ensures) (c .if1 .taken))
@@ -26,4 +23,4 @@ unfolding judged
 returns-4 c = rw (test-passed (c .before .before .before .in-range .ensures) (c .before .before .if1 .left), le-leb _ _ (c .before .if2 .left), not-false (c .before .before .before .before .args .fits) (c .if3 .left))
 
 pub judge-spec : {M : Type 1} → statement M
-judge-spec = tie.close (tie.spec in-range-requires returns returns-2 returns-3 returns-4)
+judge-spec = tie.close (tie.spec (λ c κs. search needs) returns returns-2 returns-3 returns-4)

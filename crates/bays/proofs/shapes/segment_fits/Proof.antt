@@ -7,9 +7,6 @@ use Rattle.bays.proofs.Ranges.{sizes}
 use Rattle.bays.proofs.shapes.segment_fits.Statement.{statement}
 use Rattle.bays.proofs.shapes.segment_fits.Tie as tie
 
-board-fits-requires : tie.Need-board-fits-requires
-board-fits-requires c κs = search needs
-
 returns : tie.Need-returns
 unfolding segmentFits
 returns c = rw (test-failed (c .before .board-fits .ensures) (c .if1 .taken))
@@ -28,4 +25,4 @@ returns-3 c = rw (test-passed (c .before .before .before .board-fits .ensures) (
 
 pub segment-fits-spec : {M : Type 1} → statement M
 segment-fits-spec =
-    tie.close (tie.spec board-fits-requires returns segments-of-requires returns-2 returns-3)
+    tie.close (tie.spec (λ c κs. search needs) returns segments-of-requires returns-2 returns-3)

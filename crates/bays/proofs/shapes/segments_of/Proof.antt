@@ -7,12 +7,6 @@ use Rattle.bays.proofs.Ranges.{exactly, rounded}
 use Rattle.bays.proofs.shapes.segments_of.Statement.{statement}
 use Rattle.bays.proofs.shapes.segments_of.Tie as tie
 
-div-whole : tie.Need-div-whole
-div-whole c = search needs
-
-rem-if1 : tie.Need-rem-if1
-rem-if1 c = search needs
-
 returns : tie.Need-returns
 returns c = exactly (c .before .args .size) (c .before .args .n) (omega arith) (c .if1 .taken)
 
@@ -23,4 +17,4 @@ returns-2 : tie.Need-returns-2
 returns-2 c = rounded (c .before .args .size) (c .before .args .n) (omega arith) (c .if1 .left)
 
 pub segments-of-spec : {M : Type 1} → statement M
-segments-of-spec = tie.close (tie.spec div-whole rem-if1 returns add-result returns-2)
+segments-of-spec = tie.close (tie.spec (λ c. search needs) (λ c. search needs) returns add-result returns-2)

@@ -9,20 +9,8 @@ use Rattle.board.proofs.Merges.{denied, no-room, bad-bay, list-full, al
 use Rattle.board.proofs.merging.merge.Statement.{statement}
 use Rattle.board.proofs.merging.merge.Tie as tie
 
-board-fits-requires : tie.Need-board-fits-requires
-board-fits-requires c κs = search needs
-
-judge-requires : tie.Need-judge-requires
-judge-requires c κs = search needs
-
-enum-known-why : tie.Need-enum-known-why
-enum-known-why c = search needs
-
 returns : tie.Need-returns
 returns c = denied _ _ _ _ _ _ (c .before .before .before .judge .ensures) (c .before .before .before .before .board-fits .ensures) _ (c .before .why .given .1)
-
-enum-told : tie.Need-enum-told
-enum-told c = search needs
 
 div-if1 : tie.Need-div-if1
 div-if1 c = omega (arith, ranges (c .before .before .before .before .before .before .args .settings) (passed _ _ (c .before .before .judge .ensures) (c .before .before .before .board-fits .ensures) (c .enum-told .given .1) .0))
@@ -36,26 +24,14 @@ returns-2 c = no-room _ _ _ _ _ _ (c .before .before .before .judge .ensures) (c
 judge-bays-requires : tie.Need-judge-bays-requires
 judge-bays-requires c κs = let known = passed _ _ (c .before .before .before .judge .ensures) (c .before .before .before .before .board-fits .ensures) (c .before .enum-told .given .1) in (known .1, known .2)
 
-enum-known-why-2 : tie.Need-enum-known-why-2
-enum-known-why-2 c = search needs
-
 returns-3 : tie.Need-returns-3
 returns-3 c = bad-bay _ _ _ _ _ _ (c .before .before .before .before .before .before .before .judge .ensures) (c .before .before .before .before .before .before .before .before .board-fits .ensures) (c .before .before .before .before .before .enum-told .given .1) (c .before .before .before .before .if1 .left) (c .before .before .before .judge-bays .ensures) _ (c .before .why2 .given .1)
-
-enum-told-2 : tie.Need-enum-told-2
-enum-told-2 c = search needs
 
 walk-board-requires : tie.Need-walk-board-requires
 walk-board-requires c κs = (passed _ _ (c .before .before .before .before .before .before .before .judge .ensures) (c .before .before .before .before .before .before .before .before .board-fits .ensures) (c .before .before .before .before .before .enum-told .given .1), sym (c .before .before .before .judge-bays .ensures) ∙ c .before .enum-told2 .given .1)
 
-same-length : tie.Need-same-length
-same-length c = search needs
-
 returns-4 : tie.Need-returns-4
 returns-4 c = list-full _ _ _ _ _ _ (c .before .before .before .before .before .before .before .before .before .before .before .judge .ensures) (c .before .before .before .before .before .before .before .before .before .before .before .before .board-fits .ensures) (c .before .before .before .before .before .before .before .before .before .enum-told .given .1) (c .before .before .before .before .before .before .before .before .if1 .left) (c .before .before .before .before .before .before .before .judge-bays .ensures) (c .before .before .before .before .before .enum-told2 .given .1) (c .before .before .before .walk-board .ensures .0) (c .before .before .before .walk-board .ensures .1) (c .if2 .taken)
-
-same-length-2 : tie.Need-same-length-2
-same-length-2 c = search needs
 
 returns-5 : tie.Need-returns-5
 returns-5 c = all-written _ _ _ _ _ _ (c .before .before .before .before .before .before .before .before .before .before .before .judge .ensures) (c .before .before .before .before .before .before .before .before .before .before .before .before .board-fits .ensures) (c .before .before .before .before .before .before .before .before .before .enum-told .given .1) (c .before .before .before .before .before .before .before .before .if1 .left) (c .before .before .before .before .before .before .before .judge-bays .ensures) (c .before .before .before .before .before .enum-told2 .given .1) (c .before .before .before .walk-board .ensures .0) (c .before .before .before .walk-board .ensures .1) (c .if2 .left)
@@ -63,21 +39,6 @@ returns-5 c = all-written _ _ _ _ _ _ (c .before .before .before .before .before
 pub merge-spec : {M : Type 1} → statement M
 merge-spec =
     tie.close
-    (tie.spec
-    board-fits-requires
-    judge-requires
-    enum-known-why
-    returns
-    enum-told
-    div-if1
-    add-if1
-    returns-2
-    judge-bays-requires
-    enum-known-why-2
-    returns-3
-    enum-told-2
-    walk-board-requires
-    same-length
-    returns-4
-    same-length-2
-    returns-5)
+    (tie.spec (λ c κs. search needs) (λ c κs. search needs) (λ c. search needs) returns (λ c. search needs) div-if1 add-if1 returns-2
+    judge-bays-requires (λ c. search needs) returns-3 (λ c. search needs) walk-board-requires (λ c. search needs) returns-4
+    (λ c. search needs) returns-5)

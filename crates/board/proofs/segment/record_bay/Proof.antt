@@ -7,30 +7,15 @@ use Rattle.board.proofs.Fills.{bay-there}
 use Rattle.board.proofs.segment.record_bay.Statement.{statement}
 use Rattle.board.proofs.segment.record_bay.Tie as tie
 
-bay-fits-requires : tie.Need-bay-fits-requires
-bay-fits-requires c κs = search needs
-
-judge-requires : tie.Need-judge-requires
-judge-requires c κs = search needs
-
-enum-known-why : tie.Need-enum-known-why
-enum-known-why c = search needs
-
 returns : tie.Need-returns
 unfolding bayAnswer bayAfter
 returns c = refused-at _ _ (c .before .before .before .judge .ensures) (c .before .before .before .before .bay-fits .ensures) (c .before .why .given .1) Refused _ _ _
-
-enum-told : tie.Need-enum-told
-enum-told c = search needs
 
 fill-bay-requires : tie.Need-fill-bay-requires
 fill-bay-requires c κs =
     let rows = passed _ _ (c .before .before .before .judge .ensures) (c .before .before .before .before .bay-fits .ensures) (c .before .enum-told .given .1) in
     let there = bay-there _ _ _ _ (rows .1) (rows .2) in
     (rows .0, there .0, there .1)
-
-same-length : tie.Need-same-length
-same-length c = search needs
 
 returns-2 : tie.Need-returns-2
 unfolding bayAnswer bayAfter
@@ -40,12 +25,5 @@ returns-2 c =
 pub record-bay-spec : {M : Type 1} → statement M
 record-bay-spec =
     tie.close
-    (tie.spec
-    bay-fits-requires
-    judge-requires
-    enum-known-why
-    returns
-    enum-told
-    fill-bay-requires
-    same-length
-    returns-2)
+    (tie.spec (λ c κs. search needs) (λ c κs. search needs) (λ c. search needs) returns (λ c. search needs) fill-bay-requires
+    (λ c. search needs) returns-2)

@@ -9,21 +9,9 @@ use Rattle.board.proofs.Fills.{segment-there, lent-wide, lent-answer, p
 use Rattle.board.proofs.segment.segment.Statement.{statement}
 use Rattle.board.proofs.segment.segment.Tie as tie
 
-segment-fits-requires : tie.Need-segment-fits-requires
-segment-fits-requires c κs = search needs
-
-judge-requires : tie.Need-judge-requires
-judge-requires c κs = search needs
-
-enum-known-why : tie.Need-enum-known-why
-enum-known-why c = search needs
-
 returns : tie.Need-returns
 unfolding segmentAnswer segmentBoard
 returns c = refused-at _ _ (c .before .before .before .judge .ensures) (c .before .before .before .before .segment-fits .ensures) (c .before .why .given .1) Refused _ _ _
-
-enum-told : tie.Need-enum-told
-enum-told c = search needs
 
 mul-start : tie.Need-mul-start
 mul-start c =
@@ -40,12 +28,6 @@ mul-fill-bay c =
     let rows = passed _ _ (c .before .before .judge .ensures) (c .before .before .before .segment-fits .ensures) (c .enum-told .given .1) in
     omega (arith, segment-there _ _ _ _ _ (rows .1) (rows .2) .2, c .before .before .before .before .before .before .good)
 
-sub-fill-bay : tie.Need-sub-fill-bay
-sub-fill-bay c = search needs
-
-part-fill-bay-start : tie.Need-part-fill-bay-start
-part-fill-bay-start c = search needs
-
 part-fill-bay-end : tie.Need-part-fill-bay-end
 part-fill-bay-end c =
     let rows = passed _ _ (c .before .before .judge .ensures) (c .before .before .before .segment-fits .ensures) (c .enum-told .given .1) in
@@ -56,9 +38,6 @@ fill-bay-requires c κs =
     let rows = passed _ _ (c .before .before .before .judge .ensures) (c .before .before .before .before .segment-fits .ensures) (c .before .enum-told .given .1) in
     let there = segment-there _ _ _ _ _ (rows .1) (rows .2) in
     (rows .0, there .0, lent-wide _ _ _ (there .2) (there .1))
-
-same-length : tie.Need-same-length
-same-length c = search needs
 
 returns-2 : tie.Need-returns-2
 unfolding segmentAnswer segmentBoard
@@ -71,18 +50,5 @@ returns-2 c =
 pub segment-spec : {M : Type 1} → statement M
 segment-spec =
     tie.close
-    (tie.spec
-    segment-fits-requires
-    judge-requires
-    enum-known-why
-    returns
-    enum-told
-    mul-start
-    add-fill-bay
-    mul-fill-bay
-    sub-fill-bay
-    part-fill-bay-start
-    part-fill-bay-end
-    fill-bay-requires
-    same-length
-    returns-2)
+    (tie.spec (λ c κs. search needs) (λ c κs. search needs) (λ c. search needs) returns (λ c. search needs) mul-start add-fill-bay
+    mul-fill-bay (λ c. search needs) (λ c. search needs) part-fill-bay-end fill-bay-requires (λ c. search needs) returns-2)

@@ -63,21 +63,5 @@ returns-3 c = ended _ _ (c .before .before .before .before .before .before .befo
 pub first-mark-spec : {M : Type 1} → statement M
 first-mark-spec =
     tie.close
-    (tie.spec
-    Inv-loop
-    μ-loop
-    returns
-    shl-mask
-    sub-mask
-    sub-of-window
-    of-window-requires
-    loop-holds
-    sub-roll
-    shared-slice-read-roll
-    shared-slice-read-roll-2
-    roll-requires
-    add-at
-    loop-less
-    loop-again
-    returns-2
-    returns-3)
+    (tie.spec Inv-loop μ-loop returns shl-mask sub-mask sub-of-window of-window-requires loop-holds sub-roll shared-slice-read-roll
+    shared-slice-read-roll-2 roll-requires add-at loop-less loop-again returns-2 returns-3)

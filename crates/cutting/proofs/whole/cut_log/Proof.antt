@@ -10,9 +10,6 @@ use Rattle.cutting.specs.WholeLog.{cutLogAnswer, cutLogList}
 use Rattle.cutting.proofs.whole.cut_log.Statement.{statement}
 use Rattle.cutting.proofs.whole.cut_log.Tie as tie
 
-in-range-requires : tie.Need-in-range-requires
-in-range-requires c κs = search needs
-
 returns : tie.Need-returns
 unfolding cutLogAnswer cutLogList
 returns c = let bad = test-failed (c .before .in-range .ensures) (c .if1 .taken) in (rw bad, rw bad)
@@ -38,9 +35,6 @@ returns-3 c =
 write-cuts-requires : tie.Need-write-cuts-requires
 write-cuts-requires c κs = test-passed (c .before .before .before .before .in-range .ensures) (c .before .before .before .if1 .left)
 
-same-length : tie.Need-same-length
-same-length c = search needs
-
 returns-4 : tie.Need-returns-4
 unfolding cutLogAnswer cutLogList
 returns-4 c =
@@ -52,13 +46,4 @@ returns-4 c =
 pub cut-log-spec : {M : Type 1} → statement M
 cut-log-spec =
     tie.close
-    (tie.spec
-    in-range-requires
-    returns
-    returns-2
-    div-if3
-    add-if3
-    returns-3
-    write-cuts-requires
-    same-length
-    returns-4)
+    (tie.spec (λ c κs. search needs) returns returns-2 div-if3 add-if3 returns-3 write-cuts-requires (λ c. search needs) returns-4)

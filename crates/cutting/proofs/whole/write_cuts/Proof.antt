@@ -63,19 +63,5 @@ returns-2 c = done (log-rising _ _ (c .before .before .before .before .before .b
 pub write-cuts-spec : {M : Type 1} → statement M
 write-cuts-spec =
     tie.close
-    (tie.spec
-    Inv-loop
-    μ-loop
-    leaving-requires
-    pushed-requires
-    loop-holds
-    same-length
-    returns
-    next-cut-requires
-    mul-list
-    slice-write-list
-    add-count
-    loop-less
-    loop-again
-    same-length-2
-    returns-2)
+    (tie.spec Inv-loop μ-loop leaving-requires pushed-requires loop-holds same-length returns next-cut-requires mul-list slice-write-list
+    add-count loop-less loop-again same-length-2 returns-2)

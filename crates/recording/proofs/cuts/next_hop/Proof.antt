@@ -51,16 +51,5 @@ returns-4 c = open-end _ _ _ (ranges _ (c .before .before .before .before .befor
 pub next-hop-spec : {M : Type 1} → statement M
 next-hop-spec =
     tie.close
-    (tie.spec
-    add-first
-    add-result
-    returns
-    end-of-requires
-    sub-of-window
-    of-window-requires
-    seek-requires
-    returns-2
-    sub-if3
-    returns-3
-    add-result-2
-    returns-4)
+    (tie.spec add-first add-result returns end-of-requires sub-of-window of-window-requires seek-requires returns-2 sub-if3 returns-3
+    add-result-2 returns-4)

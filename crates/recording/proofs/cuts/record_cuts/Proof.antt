@@ -27,9 +27,6 @@ loop-holds c = record { from = c .before .before .before .pre .1 .0 .1; ahead = 
 add-cut : tie.Need-add-cut Inv-loop μ-loop
 add-cut c = omega (arith, c .before .before .before .before .before .pre .1 .0 .3, c .loop-test .taken)
 
-put-requires : tie.Need-put-requires Inv-loop μ-loop
-put-requires c κs = search needs
-
 add-count : tie.Need-add-count Inv-loop μ-loop
 add-count c = omega (arith, c .before .before .before .before .before .loop .inv .way .behind, c .before .before .before .before .before .before .before .before .before .pre .1 .0 .3, c .before .before .before .before .loop-test .taken, rises-past _ _ _ (ranges _ (c .before .before .before .before .before .before .before .before .before .pre .0)) _ _ (c .before .before .before .before .before .loop .inv .from) (c .before .before .before .before .before .loop .inv .ahead) (c .before .before .before .before .loop-test .taken))
 
@@ -51,17 +48,5 @@ returns c = cuts-done _ _ _ (ranges _ (c .before .before .before .before .before
 pub record-cuts-spec : {M : Type 1} → statement M
 record-cuts-spec =
     tie.close
-    (tie.spec
-    Inv-loop
-    μ-loop
-    sub-next-hop
-    next-hop-requires
-    loop-holds
-    add-cut
-    put-requires
-    add-count
-    next-hop-requires-2
-    loop-less
-    loop-again
-    same-length
-    returns)
+    (tie.spec Inv-loop μ-loop sub-next-hop next-hop-requires loop-holds add-cut (λ c κs. search needs) add-count next-hop-requires-2
+    loop-less loop-again same-length returns)

@@ -5,15 +5,9 @@ use Rattle.recording.specs.Records.{isMarker}
 use Rattle.recording.proofs.marks.is_marker.Statement.{statement}
 use Rattle.recording.proofs.marks.is_marker.Tie as tie
 
-sub-step : tie.Need-sub-step
-sub-step c = search needs
-
 returns : tie.Need-returns
 unfolding isMarker
 returns c = rw (lt-leb _ _ (c .if1 .taken))
-
-sub-if2 : tie.Need-sub-if2
-sub-if2 c = search needs
 
 returns-2 : tie.Need-returns-2
 unfolding isMarker
@@ -24,4 +18,4 @@ unfolding isMarker
 returns-3 c = rw (le-leb _ _ (c .before .if1 .left), le-leb _ _ (c .if2 .left))
 
 pub is-marker-spec : {M : Type 1} → statement M
-is-marker-spec = tie.close (tie.spec sub-step returns sub-if2 returns-2 returns-3)
+is-marker-spec = tie.close (tie.spec (λ c. search needs) returns (λ c. search needs) returns-2 returns-3)

@@ -29,12 +29,6 @@ same-length c = same-long (c .before .before .before .before .before .loop .inv 
 returns : tie.Need-returns Inv-loop μ-loop
 returns c = slow-none (c .before .before .before .before .before .loop .inv) _ (c .before .before .before .if1 .taken) (c .before .before .next-mark .ensures) (not-true _ (c .if2 .taken))
 
-add-offset : tie.Need-add-offset Inv-loop μ-loop
-add-offset c = search needs
-
-put-requires : tie.Need-put-requires Inv-loop μ-loop
-put-requires c κs = search needs
-
 add-count : tie.Need-add-count Inv-loop μ-loop
 add-count c = omega (arith, c .before .before .before .before .before .before .before .before .before .loop .inv .way .behind, c .before .before .before .before .before .before .before .before .before .loop .inv .inside, c .before .before .before .before .before .before .before .before .before .before .before .before .pre .1 .0 .3)
 
@@ -68,22 +62,5 @@ returns-3 c = slow-end (c .before .before .loop .inv) (c .if1 .left)
 pub record-after-spec : {M : Type 1} → statement M
 record-after-spec =
     tie.close
-    (tie.spec
-    Inv-loop
-    μ-loop
-    loop-holds
-    next-mark-requires
-    same-length
-    returns
-    add-offset
-    put-requires
-    add-count
-    add-is-marker
-    is-marker-requires
-    record-cuts-requires
-    same-length-2
-    returns-2
-    loop-less
-    loop-again
-    same-length-3
-    returns-3)
+    (tie.spec Inv-loop μ-loop loop-holds next-mark-requires same-length returns (λ c. search needs) (λ c κs. search needs) add-count
+    add-is-marker is-marker-requires record-cuts-requires same-length-2 returns-2 loop-less loop-again same-length-3 returns-3)

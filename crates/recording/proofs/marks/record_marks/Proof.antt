@@ -18,9 +18,6 @@ returns c = first-none _ _ _ (c .before .before .before .before .before .before 
 add-put : tie.Need-add-put
 add-put c = omega (arith, c .before .before .before .seek .ensures .inside, c .before .before .before .before .before .before .before .pre .1 .0 .1)
 
-put-requires : tie.Need-put-requires
-put-requires c κs = search needs
-
 record-after-requires : tie.Need-record-after-requires
 record-after-requires c κs = (c .before .before .before .before .before .before .before .before .before .before .before .pre .0, ((c .before .before .before .before .before .before .before .seek .ensures .begun, c .before .before .before .before .before .before .before .seek .ensures .inside, c .before .before .before .before .before .before .before .seek .ensures .here, c .before .before .before .before .before .before .before .before .before .before .before .pre .1 .0 .1), c .before .before .before .before .before .before .before .before .before .before .before .pre .1 .1))
 
@@ -33,12 +30,4 @@ returns-2 c = first-found _ _ _ (c .before .before .before .before .before .befo
 pub record-marks-spec : {M : Type 1} → statement M
 record-marks-spec =
     tie.close
-    (tie.spec
-    of-window-requires
-    seek-requires
-    returns
-    add-put
-    put-requires
-    record-after-requires
-    same-length
-    returns-2)
+    (tie.spec of-window-requires seek-requires returns add-put (λ c κs. search needs) record-after-requires same-length returns-2)

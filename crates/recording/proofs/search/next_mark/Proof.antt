@@ -18,23 +18,10 @@ shared-slice-read-roll-2 c = c .before .before .before .pre .1 .0 .1
 roll-requires : tie.Need-roll-requires
 roll-requires c κs = (signature-lt _ (c .before .before .before .pre .1 .0 .2), c .before .before .before .pre .1 .1 .0, c .before .before .before .pre .1 .1 .1)
 
-add-seek : tie.Need-add-seek
-add-seek c = search needs
-
 seek-requires : tie.Need-seek-requires
 seek-requires c κs = (c .before .before .before .before .pre .0, ((omega (arith, c .before .before .before .before .pre .1 .0), omega (arith, c .before .before .before .before .pre .1 .0), omega arith, rolled-on _ (λ j. c .before .shared-slice-known3 .given j .fits) _ (c .before .before .before .before .pre .1 .0 .0) (c .before .before .before .before .pre .1 .0 .1) _ _ (c .before .before .before .before .pre .1 .0 .2) (c .roll .ensures)), c .before .before .before .before .pre .1 .1))
-
-returns : tie.Need-returns
-returns c = search needs
 
 pub next-mark-spec : {M : Type 1} → statement M
 next-mark-spec =
     tie.close
-    (tie.spec
-    sub-roll
-    shared-slice-read-roll
-    shared-slice-read-roll-2
-    roll-requires
-    add-seek
-    seek-requires
-    returns)
+    (tie.spec sub-roll shared-slice-read-roll shared-slice-read-roll-2 roll-requires (λ c. search needs) seek-requires (λ c. search needs))

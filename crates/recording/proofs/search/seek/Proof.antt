@@ -54,18 +54,5 @@ returns-2 c = sought _ _ (c .before .before .before .before .pre .1 .0 .0) (c .b
 pub seek-spec : {M : Type 1} → statement M
 seek-spec =
     tie.close
-    (tie.spec
-    Inv-loop
-    μ-loop
-    shl-mask
-    sub-mask
-    loop-holds
-    returns
-    sub-roll
-    shared-slice-read-roll
-    shared-slice-read-roll-2
-    roll-requires
-    add-at
-    loop-less
-    loop-again
-    returns-2)
+    (tie.spec Inv-loop μ-loop shl-mask sub-mask loop-holds returns sub-roll shared-slice-read-roll shared-slice-read-roll-2 roll-requires
+    add-at loop-less loop-again returns-2)

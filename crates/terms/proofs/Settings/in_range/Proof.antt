@@ -29,9 +29,6 @@ returns-3 : tie.Need-returns-3
 unfolding inRange
 returns-3 c = simp (le-leb _ _ (c .before .before .if1 .left), le-leb _ _ (c .before .if2 .left), lt-leb _ _ (c .if3 .taken))
 
-shr-if4 : tie.Need-shr-if4
-shr-if4 c = search needs
-
 returns-4 : tie.Need-returns-4
 unfolding inRange
 returns-4 c =
@@ -76,4 +73,4 @@ returns-8 c = simp (le-leb _ _ (c .before .before .before .before .before .befor
 pub in-range-spec : {M : Type 1} → statement M
 in-range-spec =
     tie.close
-    (tie.spec returns returns-2 returns-3 shr-if4 returns-4 returns-5 returns-6 returns-7 returns-8)
+    (tie.spec returns returns-2 returns-3 (λ c. search needs) returns-4 returns-5 returns-6 returns-7 returns-8)

@@ -11,15 +11,6 @@ use Rattle.thrunglow.proofs.amends.counted.Tie as tie
 abbrev refusedBy : ℕ → Amendment
 refusedBy number = record { number = number; front = 0; recut = 0; back = 0 }
 
-enum-known-amendment : tie.Need-enum-known-amendment
-enum-known-amendment c = search needs
-
-enum-known-amendment-2 : tie.Need-enum-known-amendment-2
-enum-known-amendment-2 c = search needs
-
-number-requires : tie.Need-number-requires
-number-requires c κs = search needs
-
 returns : tie.Need-returns
 unfolding amendmentNumber frontOf recutOf backOf
 returns c = sym (ap countsOf (c .before .amendment .given .1))
@@ -31,4 +22,4 @@ returns-2 c = ap refusedBy (c .number .ensures) ∙ sym (ap countsOf (c .before 
 pub counted-spec : {M : Type 1} → statement M
 counted-spec =
     tie.close
-    (tie.spec enum-known-amendment enum-known-amendment-2 number-requires returns returns-2)
+    (tie.spec (λ c. search needs) (λ c. search needs) (λ c κs. search needs) returns returns-2)

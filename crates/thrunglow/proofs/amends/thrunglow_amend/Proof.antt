@@ -5,17 +5,8 @@ use borrow.Author.Needs.{needs}
 use Rattle.thrunglow.proofs.amends.thrunglow_amend.Statement.{statement}
 use Rattle.thrunglow.proofs.amends.thrunglow_amend.Tie as tie
 
-amend-requires : tie.Need-amend-requires
-amend-requires c κs = search needs
-
-counted-requires : tie.Need-counted-requires
-counted-requires c κs = search needs
-
-same-length : tie.Need-same-length
-same-length c = search needs
-
 returns : tie.Need-returns
 returns c = (c .counted .ensures ∙ ap countsOf (c .before .before .before .amend .ensures .0), c .before .before .before .amend .ensures .1)
 
 pub thrunglow-amend-spec : {M : Type 1} → statement M
-thrunglow-amend-spec = tie.close (tie.spec amend-requires counted-requires same-length returns)
+thrunglow-amend-spec = tie.close (tie.spec (λ c κs. search needs) (λ c κs. search needs) (λ c. search needs) returns)

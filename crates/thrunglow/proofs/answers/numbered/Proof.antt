@@ -10,15 +10,6 @@ use Rattle.thrunglow.proofs.answers.numbered.Tie as tie
 abbrev refusedBy : ℕ → Outcome
 refusedBy number = record { number = number; count = 0 }
 
-enum-known-answer : tie.Need-enum-known-answer
-enum-known-answer c = search needs
-
-enum-known-answer-2 : tie.Need-enum-known-answer-2
-enum-known-answer-2 c = search needs
-
-number-requires : tie.Need-number-requires
-number-requires c κs = search needs
-
 returns : tie.Need-returns
 unfolding answerNumber answerCount
 returns c = sym (ap outcomeOf (c .before .answer .given .1))
@@ -29,4 +20,4 @@ returns-2 c = ap refusedBy (c .number .ensures) ∙ sym (ap outcomeOf (c .before
 
 pub numbered-spec : {M : Type 1} → statement M
 numbered-spec =
-    tie.close (tie.spec enum-known-answer enum-known-answer-2 number-requires returns returns-2)
+    tie.close (tie.spec (λ c. search needs) (λ c. search needs) (λ c κs. search needs) returns returns-2)

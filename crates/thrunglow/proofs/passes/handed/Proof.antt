@@ -10,11 +10,8 @@ use Rattle.thrunglow.proofs.passes.handed.Tie as tie
 abbrev withCarry : Carry → Outcome → Passed
 withCarry carry plain = record { number = plain .number; count = plain .count; carry = carry }
 
-numbered-requires : tie.Need-numbered-requires
-numbered-requires c κs = search needs
-
 returns : tie.Need-returns
 returns c = ap (withCarry (c .before .before .args .outcome .carry)) (c .numbered .ensures)
 
 pub handed-spec : {M : Type 1} → statement M
-handed-spec = tie.close (tie.spec numbered-requires returns)
+handed-spec = tie.close (tie.spec (λ c κs. search needs) returns)

@@ -5,14 +5,8 @@ use borrow.Author.Needs.{needs}
 use Rattle.thrunglow.proofs.passes.thrunglow_fresh.Statement.{statement}
 use Rattle.thrunglow.proofs.passes.thrunglow_fresh.Tie as tie
 
-fresh-requires : tie.Need-fresh-requires
-fresh-requires c κs = search needs
-
-handed-requires : tie.Need-handed-requires
-handed-requires c κs = search needs
-
 returns : tie.Need-returns
 returns c = c .handed .ensures ∙ ap passedOf (c .before .fresh .ensures)
 
 pub thrunglow-fresh-spec : {M : Type 1} → statement M
-thrunglow-fresh-spec = tie.close (tie.spec fresh-requires handed-requires returns)
+thrunglow-fresh-spec = tie.close (tie.spec (λ c κs. search needs) (λ c κs. search needs) returns)

@@ -5,17 +5,8 @@ use borrow.Author.Needs.{needs}
 use Rattle.thrunglow.proofs.segments.thrunglow_merge.Statement.{statement}
 use Rattle.thrunglow.proofs.segments.thrunglow_merge.Tie as tie
 
-merge-requires : tie.Need-merge-requires
-merge-requires c κs = search needs
-
-numbered-requires : tie.Need-numbered-requires
-numbered-requires c κs = search needs
-
-same-length : tie.Need-same-length
-same-length c = search needs
-
 returns : tie.Need-returns
 returns c = (c .numbered .ensures ∙ ap outcomeOf (c .before .before .before .merge .ensures .0), c .before .before .before .merge .ensures .1)
 
 pub thrunglow-merge-spec : {M : Type 1} → statement M
-thrunglow-merge-spec = tie.close (tie.spec merge-requires numbered-requires same-length returns)
+thrunglow-merge-spec = tie.close (tie.spec (λ c κs. search needs) (λ c κs. search needs) (λ c. search needs) returns)

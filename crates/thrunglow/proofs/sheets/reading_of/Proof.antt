@@ -17,15 +17,6 @@ refusedBy number =
       count = 0;
     }
 
-enum-known-sheet : tie.Need-enum-known-sheet
-enum-known-sheet c = search needs
-
-enum-known-sheet-2 : tie.Need-enum-known-sheet-2
-enum-known-sheet-2 c = search needs
-
-number-requires : tie.Need-number-requires
-number-requires c κs = search needs
-
 returns : tie.Need-returns
 unfolding sheetNumber sheetLabel sheetSettings sheetCount
 returns c = sym (ap readingOf (c .before .sheet .given .1))
@@ -36,4 +27,4 @@ returns-2 c = ap refusedBy (c .number .ensures) ∙ sym (ap readingOf (c .before
 
 pub reading-of-spec : {M : Type 1} → statement M
 reading-of-spec =
-    tie.close (tie.spec enum-known-sheet enum-known-sheet-2 number-requires returns returns-2)
+    tie.close (tie.spec (λ c. search needs) (λ c. search needs) (λ c κs. search needs) returns returns-2)

@@ -8,18 +8,6 @@ use borrow.Author.Needs.{needs}
 use Rattle.thrunglow.proofs.sheets.thrunglow_read_sheet.Statement.{statement}
 use Rattle.thrunglow.proofs.sheets.thrunglow_read_sheet.Tie as tie
 
-label-of-requires : tie.Need-label-of-requires
-label-of-requires c κs = search needs
-
-read-sheet-requires : tie.Need-read-sheet-requires
-read-sheet-requires c κs = search needs
-
-reading-of-requires : tie.Need-reading-of-requires
-reading-of-requires c κs = search needs
-
-same-length : tie.Need-same-length
-same-length c = search needs
-
 returns : tie.Need-returns
 returns c =
     let read = c .before .before .before .read-sheet .ensures in
@@ -32,4 +20,4 @@ returns c =
 pub thrunglow-read-sheet-spec : {M : Type 1} → statement M
 thrunglow-read-sheet-spec =
     tie.close
-    (tie.spec label-of-requires read-sheet-requires reading-of-requires same-length returns)
+    (tie.spec (λ c κs. search needs) (λ c κs. search needs) (λ c κs. search needs) (λ c. search needs) returns)

@@ -7,18 +7,6 @@ use borrow.Author.Needs.{needs}
 use Rattle.thrunglow.proofs.sheets.thrunglow_write_sheet.Statement.{statement}
 use Rattle.thrunglow.proofs.sheets.thrunglow_write_sheet.Tie as tie
 
-label-of-requires : tie.Need-label-of-requires
-label-of-requires c κs = search needs
-
-write-sheet-requires : tie.Need-write-sheet-requires
-write-sheet-requires c κs = search needs
-
-numbered-requires : tie.Need-numbered-requires
-numbered-requires c κs = search needs
-
-same-length : tie.Need-same-length
-same-length c = search needs
-
 returns : tie.Need-returns
 returns c =
     let wrote = c .before .before .before .write-sheet .ensures in
@@ -30,4 +18,4 @@ returns c =
 pub thrunglow-write-sheet-spec : {M : Type 1} → statement M
 thrunglow-write-sheet-spec =
     tie.close
-    (tie.spec label-of-requires write-sheet-requires numbered-requires same-length returns)
+    (tie.spec (λ c κs. search needs) (λ c κs. search needs) (λ c κs. search needs) (λ c. search needs) returns)

@@ -23,9 +23,6 @@ sub-loop c = omega (arith, c .loop .inv .0)
 add-cut : tie.Need-add-cut Inv-loop μ-loop
 add-cut c = omega (arith, c .before .loop .inv .0)
 
-put-requires : tie.Need-put-requires Inv-loop μ-loop
-put-requires c κs = search needs
-
 add-count : tie.Need-add-count Inv-loop μ-loop
 add-count c = omega (arith, c .before .before .before .before .before .loop .inv .1 .behind, c .before .before .before .before .before .loop .inv .0)
 
@@ -44,15 +41,4 @@ returns c = ended (rest-is _ (forced-none _ (c .before .before .before .pre .2) 
 pub force-cuts-spec : {M : Type 1} → statement M
 force-cuts-spec =
     tie.close
-    (tie.spec
-    Inv-loop
-    μ-loop
-    loop-holds
-    sub-loop
-    add-cut
-    put-requires
-    add-count
-    loop-less
-    loop-again
-    same-length
-    returns)
+    (tie.spec Inv-loop μ-loop loop-holds sub-loop add-cut (λ c κs. search needs) add-count loop-less loop-again same-length returns)

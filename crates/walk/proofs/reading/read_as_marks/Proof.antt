@@ -23,29 +23,14 @@ abbrev μ-loop : tie.MeasureT-loop
 loop-holds : tie.Need-loop-holds Inv-loop μ-loop
 loop-holds c = (omega arith, (c .before .before .pre .1, begin _ (c .before .before .args .made) _ (c .before .before .pre .0)))
 
-mul-p : tie.Need-mul-p Inv-loop μ-loop
-mul-p c = search needs
-
-shared-slice-read-p : tie.Need-shared-slice-read-p Inv-loop μ-loop
-shared-slice-read-p c = search needs
-
 read-offset-requires : tie.Need-read-offset-requires Inv-loop μ-loop
 read-offset-requires c κs = (c .before .before .before .loop .inv .1 .1 .behind, next-rises _ _ _ _ (c .before .before .loop-test .taken) (c .before .before .before .loop .inv .1 .0) .0, c .before .before .before .before .before .before .pre .2)
-
-add-k : tie.Need-add-k Inv-loop μ-loop
-add-k c = search needs
 
 mul-take-offsets : tie.Need-mul-take-offsets Inv-loop μ-loop
 mul-take-offsets c = omega (arith, c .before .before .before .before .before .before .before .before .before .loop-test .taken, c .before .before .before .before .before .before .before .before .before .before .before .before .before .good)
 
-sub-take-offsets : tie.Need-sub-take-offsets Inv-loop μ-loop
-sub-take-offsets c = search needs
-
 part-take-offsets-start : tie.Need-part-take-offsets-start Inv-loop μ-loop
 part-take-offsets-start c = omega (arith, c .before .before .before .before .before .before .before .before .before .loop-test .taken)
-
-part-take-offsets-end : tie.Need-part-take-offsets-end Inv-loop μ-loop
-part-take-offsets-end c = search needs
 
 take-offsets-requires : tie.Need-take-offsets-requires Inv-loop μ-loop
 take-offsets-requires c κs = (c .before .before .before .before .before .before .before .read-offset .ensures .behind, rw rest-from (still-rises _ _ _ _ _ (c .before .before .before .before .before .before .before .before .before .before .loop-test .taken) (c .before .before .before .before .before .before .before .before .before .before .before .before .before .before .pre .2) (c .before .before .before .before .before .before .before .read-offset .ensures) (c .before .before .before .before .before .before .before .before .before .before .before .loop .inv .1 .1) (c .before .before .before .before .before .before .before .before .before .before .before .loop .inv .1 .0)))
@@ -77,24 +62,6 @@ returns-2 c = ended (rest-is _ (marks-end _ _ _ _ _ _ (c .loop-test .left)) (c .
 pub read-as-marks-spec : {M : Type 1} → statement M
 read-as-marks-spec =
     tie.close
-    (tie.spec
-    Inv-loop
-    μ-loop
-    loop-holds
-    mul-p
-    shared-slice-read-p
-    read-offset-requires
-    add-k
-    mul-take-offsets
-    sub-take-offsets
-    part-take-offsets-start
-    part-take-offsets-end
-    take-offsets-requires
-    same-length
-    returns
-    loop-less
-    loop-again
-    loop-less-2
-    loop-again-2
-    same-length-2
-    returns-2)
+    (tie.spec Inv-loop μ-loop loop-holds (λ c. search needs) (λ c. search needs) read-offset-requires (λ c. search needs) mul-take-offsets
+    (λ c. search needs) part-take-offsets-start (λ c. search needs) take-offsets-requires same-length returns loop-less loop-again
+    loop-less-2 loop-again-2 same-length-2 returns-2)

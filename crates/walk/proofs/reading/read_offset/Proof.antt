@@ -5,29 +5,14 @@ use Rattle.walk.proofs.Walks.{forced-below, offset-passed, offset-cut}
 use Rattle.walk.proofs.reading.read_offset.Statement.{statement}
 use Rattle.walk.proofs.reading.read_offset.Tie as tie
 
-sub-force-cuts : tie.Need-sub-force-cuts
-sub-force-cuts c = search needs
-
-force-cuts-requires : tie.Need-force-cuts-requires
-force-cuts-requires c κs = search needs
-
 sub-if1 : tie.Need-sub-if1
 sub-if1 c = omega (arith, forced-below 0 _ _ _ _ _ _ (c .before .before .before .before .before .before .pre .2) (c .before .before .before .before .before .before .pre .1) (c .before .before .before .before .before .before .pre .0) (c .before .before .before .force-cuts .ensures))
-
-same-length : tie.Need-same-length
-same-length c = search needs
 
 returns : tie.Need-returns
 returns c = offset-passed _ _ _ _ _ _ _ (c .before .before .before .before .before .before .before .pre .2) (c .before .before .before .before .before .before .before .pre .1) (c .before .before .before .before .before .before .before .pre .0) (c .before .before .before .before .force-cuts .ensures) (c .if1 .taken)
 
-put-requires : tie.Need-put-requires
-put-requires c κs = search needs
-
 add-t9 : tie.Need-add-t9
 add-t9 c = omega (arith, forced-below 0 _ _ _ _ _ _ (c .before .before .before .before .before .before .before .before .before .before .before .before .pre .2) (c .before .before .before .before .before .before .before .before .before .before .before .before .pre .1) (c .before .before .before .before .before .before .before .before .before .before .before .before .pre .0) (c .before .before .before .before .before .before .before .before .before .force-cuts .ensures), c .before .before .before .before .before .before .before .before .before .force-cuts .ensures .behind)
-
-same-length-2 : tie.Need-same-length-2
-same-length-2 c = search needs
 
 returns-2 : tie.Need-returns-2
 returns-2 c = offset-cut _ _ _ _ _ _ _ (c .before .before .before .before .before .before .before .before .before .before .before .before .pre .2) (c .before .before .before .before .before .before .before .before .before .before .before .before .pre .1) (c .before .before .before .before .before .before .before .before .before .before .before .before .pre .0) (c .before .before .before .before .before .before .before .before .before .force-cuts .ensures) (c .before .before .before .before .before .if1 .left) (c .before .before .before .put .ensures)
@@ -35,13 +20,5 @@ returns-2 c = offset-cut _ _ _ _ _ _ _ (c .before .before .before .before .befor
 pub read-offset-spec : {M : Type 1} → statement M
 read-offset-spec =
     tie.close
-    (tie.spec
-    sub-force-cuts
-    force-cuts-requires
-    sub-if1
-    same-length
-    returns
-    put-requires
-    add-t9
-    same-length-2
-    returns-2)
+    (tie.spec (λ c. search needs) (λ c κs. search needs) sub-if1 (λ c. search needs) returns (λ c κs. search needs) add-t9
+    (λ c. search needs) returns-2)

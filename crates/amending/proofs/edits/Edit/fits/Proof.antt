@@ -18,11 +18,8 @@ returns-2 c = simp (le-leb _ _ (c .before .before .before .if1 .left), lt-leb _ 
 returns-3 : tie.Need-returns-3
 returns-3 c = sym (edit-over _ _ _ (c .before .before .before .before .before .if1 .left) (c .before .before .if2 .left) (c .if3 .taken))
 
-sub-result : tie.Need-sub-result
-sub-result c = search needs
-
 returns-4 : tie.Need-returns-4
 returns-4 c = edit-compared _ _ _ (c .before .before .before .before .before .before .before .if1 .left) (c .before .before .before .before .if2 .left) (c .before .before .if3 .left)
 
 pub fits-spec : {M : Type 1} → statement M
-fits-spec = tie.close (tie.spec returns returns-2 returns-3 sub-result returns-4)
+fits-spec = tie.close (tie.spec returns returns-2 returns-3 (λ c. search needs) returns-4)
