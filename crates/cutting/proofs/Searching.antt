@@ -3,17 +3,22 @@ use Prim.Native.Nat.{ℕ, suc, _+_, _-_, _*_, _%_, _^_, _≤_, _<_, min}
 use mathlib.Core.Path.{_≡_, refl, sym, ap, _∙_}
 use mathlib.Core.Bool.{Bool, true, false}
 use mathlib.Core.List.{List}
+use mathlib.Core.Logic.{_⊎_, inl, inr}
 use native.Mathlib.Omega.{arith}
 use lib.Bits.{bitAnd}
+use lib.Dec.{eqb}
+use borrow.Author.Tests.{eq-eqb, ne-eqb}
 use lib.ListN.{length, getD}
-use Rattle.laws.proofs.Cases.{by-lt}
+use Rattle.laws.proofs.Cases.{by-lt, by-test, clash}
 use Rattle.terms.specs.declared.Settings.{Settings}
 use Rattle.rule.specs.Rule.{firstMark, next, Unmarked}
 use Rattle.rule.proofs.First.{first-at, first-none}
 use Rattle.signature.specs.Signatures.{degree, lowPart, rolled, signatureOf, window}
 use Rattle.laws.specs.Bytes.{Bytes}
 use Rattle.signature.proofs.Windows.{roll-slides}
+use Rattle.cutting.specs.declared.search.Sought.{Sought}
 use Rattle.cutting.specs.Marks.{matches, mark, nextCut}
+use Rattle.cutting.specs.Search.{Seek}
 use Rattle.cutting.proofs.Marked.{mark-within}
 use Rattle.cutting.proofs.Masked.{matched, unmatched}
 
@@ -72,23 +77,35 @@ module _ (s : Settings) (log : List ℕ) {first last : ℕ} (low : 48 ≤ first)
   none-passed {at} now-at q a b =
       unmarked q (signatureOf (window log (q - 48))) a (omega (arith, now-at .ahead)) refl (now-at .passed q a b)
 
-  pub found : {at signature : ℕ} → Searching log first last (1 * 2 ^ s .bits % 2 ^ 32 - 1) (s .target) signature at
-      → bitAnd signature (1 * 2 ^ s .bits % 2 ^ 32 - 1) ≡ s .target → at ≡ firstMark (mark s log) (suc last - first) first last
-  found {at} {signature} now-at e =
-      let b = now-at .begun in
-      let a = now-at .ahead in
-      sym (first-at (mark s log) last (suc last - first) first at b (omega arith) (marked at signature b a (now-at .here) e)
-      (none-passed now-at))
+  module _ {at signature : ℕ} (now-at : Searching log first last (1 * 2 ^ s .bits % 2 ^ 32 - 1) (s .target) signature at) where
+    stopped : (found : Bool) → mark s log at ≡ found → (found ≡ false → at ≡ last) → Seek s log first last (record { at = at; signature = signature; found = found })
+    stopped found told over =
+        record { begun = now-at .begun; inside = now-at .ahead; clear = none-passed now-at; told = told; here = now-at .here; ended = over }
 
-  pub ended : {at signature : ℕ} → Searching log first last (1 * 2 ^ s .bits % 2 ^ 32 - 1) (s .target) signature at
-      → (bitAnd signature (1 * 2 ^ s .bits % 2 ^ 32 - 1) ≡ s .target → ⊥) → at ≡ last
-      → last ≡ firstMark (mark s log) (suc last - first) first last
-  ended {at} {signature} now-at ne over =
-      let b = now-at .begun in
-      sym (first-none (mark s log) last (suc last - first) first
-      (λ q lo hi. by-lt q at (λ k. none-passed now-at q lo k)
-      (λ k. let same : q ≡ at = omega arith in
-      ap (mark s log) same ∙ unmarked at signature b (omega arith) (now-at .here) ne)))
+    -- on a match, or else at its end
+    pub stops : (stop : ℕ)
+        → ((bitAnd signature (1 * 2 ^ s .bits % 2 ^ 32 - 1) ≡ s .target) × (stop ≡ at))
+        ⊎ ((bitAnd signature (1 * 2 ^ s .bits % 2 ^ 32 - 1) ≡ s .target → ⊥) × (at ≡ last) × (stop ≡ last))
+        → Seek s log first last
+        (record { at = stop; signature = signature; found = eqb (bitAnd signature (1 * 2 ^ s .bits % 2 ^ 32 - 1)) (s .target) })
+    stops stop (inl w) =
+        rw (w .1, eq-eqb _ _ (w .0)) (stopped true (marked at signature (now-at .begun) (now-at .ahead) (now-at .here) (w .0)) (λ z. absurd (clash z)))
+    stops stop (inr w) =
+        let same : stop ≡ at = w .2 ∙ sym (w .1) in
+        rw (same, ne-eqb _ _ (w .0)) (stopped false (unmarked at signature (now-at .begun) (now-at .ahead) (now-at .here) (w .0)) (λ z. w .1))
+
+-- a search that found no mark passed none, its last offset included
+pub none-found : (s : Settings) (log : List ℕ) {first last : ℕ} {r : Sought} → Seek s log first last r → r .found ≡ false
+    → Unmarked (mark s log) first (suc last)
+none-found s log {r = r} k t q x y = by-lt q (r .at) (k .clear q x) (λ h. ap (mark s log) (omega (arith, k .ended t)) ∙ k .told ∙ t)
+
+-- it stops at the first mark, or at its end where there is none
+pub first-sought : (s : Settings) (log : List ℕ) {first last : ℕ} (r : Sought) → Seek s log first last r
+    → r .at ≡ firstMark (mark s log) (suc last - first) first last
+first-sought s log {first} {last} r k =
+    by-test (r .found)
+    (λ t. sym (first-at (mark s log) last (suc last - first) first (r .at) (k .begun) (omega (arith, k .begun, k .inside)) (k .told ∙ t) (k .clear)))
+    (λ t. k .ended t ∙ sym (first-none (mark s log) last (suc last - first) first (λ q x y. none-found s log k t q x (omega arith))))
 
 -- where there is no offset to look at, the search gives the last
 pub too-near : (mark : ℕ → Bool) (first last : ℕ) → last < first → last ≡ firstMark mark (suc last - first) first last

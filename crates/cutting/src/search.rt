@@ -4,10 +4,54 @@ ghost use mathlib.Core.Bool.{true};
 ghost use Prim.Native.Nat.{suc, _-_, _≤_, _<_, min};
 ghost use lib.ListN.{length};
 ghost use Rattle.rule.specs.Rule.{firstMark};
-ghost use Rattle.signature.specs.Signatures.{leavingTable, pushedTable};
+ghost use Rattle.signature.specs.Signatures.{signatureOf, window, leavingTable, pushedTable};
 ghost use Rattle.terms.specs.Settings.{inRange};
 ghost use Rattle.cutting.specs.Marks.{mark, nextCut};
+ghost use Rattle.cutting.specs.Search.{Seek};
 use terms::Settings;
+
+// Where a search stops: at a mark that it found, or at its end; and the signature there.
+pub struct Sought {
+    pub at: usize,
+    pub signature: u32,
+    pub found: bool,
+}
+
+// The first mark from one offset, whose signature is at hand, to another, or the latter where there is none.
+pub fn seek(
+    settings: Settings,
+    log: &[u8],
+    first: usize,
+    last: usize,
+    signature: u32,
+    leaving: &[u32; 256],
+    pushed: &[u32; 256],
+) -> Sought
+    requires { ⌜ inRange settings ≡ true ⌝ }
+    requires { ⌜ (48 ≤ first) × (first ≤ last) × (last ≤ length (now log)) × (signature ≡ signatureOf (window (now log) (first - 48))) ⌝ }
+    requires { ⌜ (now leaving ≡ leavingTable) × (now pushed ≡ pushedTable) ⌝ }
+    ensures { λ r. ⌜ Seek settings (now (log .entry)) first last r ⌝ }
+{
+    let mask: u32 = (1 << settings.bits) - 1;
+    let target = settings.target;
+    let mut here = signature;
+    let mut at = first;
+    let stop = loop {
+        if here & mask == target {
+            break at;
+        }
+        if at == last {
+            break last;
+        }
+        here = signature::roll(here, log[at - 48], log[at], leaving, pushed);
+        at += 1;
+    };
+    Sought {
+        at: stop,
+        signature: here,
+        found: here & mask == target,
+    }
+}
 
 // The first mark from one offset to another, or the latter where there is none.
 pub fn first_mark(
@@ -26,21 +70,9 @@ pub fn first_mark(
     if last < first {
         return last;
     }
-    let mask: u32 = (1 << settings.bits) - 1;
-    let target = settings.target;
-    let mut signature = signature::of_window(log, first - 48, pushed);
-    let mut at = first;
-    let cut = loop {
-        if signature & mask == target {
-            break at;
-        }
-        if at == last {
-            break last;
-        }
-        signature = signature::roll(signature, log[at - 48], log[at], leaving, pushed);
-        at += 1;
-    };
-    cut
+    let here = signature::of_window(log, first - 48, pushed);
+    let spot = seek(settings, log, first, last, here, leaving, pushed);
+    spot.at
 }
 
 pub fn smaller(a: usize, b: usize) -> usize

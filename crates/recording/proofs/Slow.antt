@@ -12,12 +12,13 @@ use Rattle.signature.specs.Signatures.{signatureOf, window}
 use Rattle.terms.specs.declared.Settings.{Settings}
 use Rattle.cutting.specs.Marks.{mark}
 use Rattle.puts.specs.declared.Made.{Made}
-use Rattle.recording.specs.declared.search.Sought.{Sought}
+use Rattle.cutting.specs.declared.search.Sought.{Sought}
 use Rattle.recording.specs.declared.Recorded.{Recorded}
 use Rattle.puts.specs.Puts.{Puts}
 use Rattle.bays.specs.Bays.{Record}
 use Rattle.recording.specs.Records.{recordAfter, slowRecord, marksAmong, marksIn, isMarker, prepend}
-use Rattle.recording.specs.Stretches.{markFrom, afterIn, slowIn, Seek, Records}
+use Rattle.recording.specs.Stretches.{markFrom, afterIn, slowIn, Records}
+use Rattle.cutting.specs.Search.{Seek}
 use Rattle.recording.proofs.Marking.{marks-next, marks-none}
 use Rattle.recording.proofs.After.{at-marker, no-marker}
 use Rattle.puts.proofs.Putting.{Underway, begin, one-more, rest-is, ended, all-made}

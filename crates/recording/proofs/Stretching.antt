@@ -15,25 +15,13 @@ use Rattle.rule.specs.Rule.{hop, hops, cutsUpTo, Unmarked}
 use Rattle.rule.proofs.First.{first-moves}
 use Rattle.rule.proofs.Hops.{past, leap, up-to, listed, hop-long, hop-rises}
 use Rattle.cutting.specs.Marks.{mark}
-use Rattle.cutting.proofs.Searching.{Searching, marked, unmarked, none-passed}
-use Rattle.recording.specs.declared.search.Sought.{Sought}
+use Rattle.cutting.specs.declared.search.Sought.{Sought}
+use Rattle.cutting.specs.Search.{Seek}
+use Rattle.cutting.proofs.Searching.{none-found}
 use Rattle.puts.specs.declared.Made.{Made}
 use Rattle.puts.specs.Puts.{Puts}
 use Rattle.puts.proofs.Putting.{Underway, one-more, rest-is, ended}
-use Rattle.recording.specs.Stretches.{markFrom, Seek, Hops}
-
--- a search for the mask of the settings' low bits
-module _ (s : Settings) (stretch : List ℕ) {first last : ℕ} (low : 48 ≤ first) (fits : last ≤ length stretch) (few : s .bits ≤ 31) {at here : ℕ}
-    (w : Searching stretch first last (1 * 2 ^ s .bits % 2 ^ 32 - 1) (s .target) here at) where
-  stopped : (found : Bool) → mark s stretch at ≡ found → (found ≡ false → at ≡ last) → Seek s stretch first last (record { at = at; signature = here; found = found })
-  stopped found told ended =
-      record { begun = w .begun; inside = w .ahead; clear = none-passed s stretch low fits few w; told = told; here = w .here; ended = ended }
-
-  pub sought : bitAnd here (1 * 2 ^ s .bits % 2 ^ 32 - 1) ≡ s .target → Seek s stretch first last (record { at = at; signature = here; found = true })
-  sought e = stopped true (marked s stretch low fits few at here (w .begun) (w .ahead) (w .here) e) (λ z. absurd (clash z))
-
-  pub not-sought : (bitAnd here (1 * 2 ^ s .bits % 2 ^ 32 - 1) ≡ s .target → ⊥) → at ≡ last → Seek s stretch first last (record { at = at; signature = here; found = false })
-  not-sought ne over = stopped false (unmarked s stretch low fits few at here (w .begun) (w .ahead) (w .here) ne) (λ z. over)
+use Rattle.recording.specs.Stretches.{markFrom, Hops}
 
 -- the hop from a cut of the stretch, for each way the code goes
 module _ (s : Settings) (stretch : List ℕ) (cut : ℕ) (ok : Ranges s) where
@@ -53,18 +41,15 @@ module _ (s : Settings) (stretch : List ℕ) (cut : ℕ) (ok : Ranges s) where
         (first-hop (mark s stretch) (s .minimum) (s .maximum) cut (r .at) (k .begun) (omega (arith, k .inside)) (k .told ∙ t) (k .clear))
 
     module _ (t : r .found ≡ false) where
-      none-found : Unmarked (mark s stretch) (cut + s .minimum) (suc last)
-      none-found q x y = by-lt q (r .at) (k .clear q x) (λ h. ap (mark s stretch) (omega (arith, k .ended t)) ∙ k .told ∙ t)
-
       pub forced-end : cut ≤ length stretch → last - cut ≡ s .maximum → Hops s stretch cut last
       forced-end inside e =
           stays-by (omega arith)
-          (forced-hop (mark s stretch) (s .minimum) (s .maximum) cut (λ q x y. none-found q x (omega arith)) ∙ omega arith)
+          (forced-hop (mark s stretch) (s .minimum) (s .maximum) cut (λ q x y. none-found s stretch k t q x (omega arith)) ∙ omega arith)
 
       pub open-end : cut ≤ length stretch → (last - cut ≡ s .maximum → ⊥) → Hops s stretch cut (length stretch + 1)
       open-end inside ne =
           let short : length stretch < cut + s .maximum = by-lt (length stretch) (cut + s .maximum) (λ h. h) (λ h. absurd (ne (omega arith))) in
-          past-by (past-hop (mark s stretch) (s .minimum) (s .maximum) cut (length stretch) short (λ q x y. none-found q x (omega arith)))
+          past-by (past-hop (mark s stretch) (s .minimum) (s .maximum) cut (length stretch) short (λ q x y. none-found s stretch k t q x (omega arith)))
 
 -- the marks of a stretch counted from its place in the log: the hops there are those of the stretch, moved
 module _ (s : Settings) (stretch : List ℕ) (base : ℕ) (ok : Ranges s) where

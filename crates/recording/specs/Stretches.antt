@@ -9,7 +9,6 @@ use Rattle.signature.specs.Signatures.{signatureOf, window}
 use Rattle.terms.specs.declared.Settings.{Settings}
 use Rattle.cutting.specs.Marks.{mark}
 use lib.Seq.{sets}
-use Rattle.recording.specs.declared.search.Sought.{Sought}
 use Rattle.recording.specs.declared.Recorded.{Recorded}
 use Rattle.bays.specs.Bays.{Record}
 use Rattle.recording.specs.Records.{recordAfter, slowRecord, marksIn}
@@ -17,15 +16,6 @@ use Rattle.recording.specs.Records.{recordAfter, slowRecord, marksIn}
 -- the marks of a stretch that begins at offset base of its log
 unfoldable pub markFrom : Settings → List ℕ → ℕ → ℕ → Bool
 markFrom s stretch base p = mark s stretch (p - base)
-
--- r is where a search from one offset to another stops
-pub record Seek (s : Settings) (stretch : List ℕ) (first last : ℕ) (r : Sought) : Type 0 where
-  pub begun : first ≤ r .at
-  pub inside : r .at ≤ last
-  pub clear : Unmarked (mark s stretch) first (r .at)
-  pub told : mark s stretch (r .at) ≡ r .found
-  pub here : r .signature ≡ signatureOf (window stretch (r .at - 48))
-  pub ended : r .found ≡ false → r .at ≡ last
 
 -- r is the hop from the cut if it stays in the stretch, and else both are past it
 pub record Hops (s : Settings) (stretch : List ℕ) (cut r : ℕ) : Type 0 where

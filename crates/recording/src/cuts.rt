@@ -8,8 +8,8 @@ ghost use Rattle.terms.specs.Settings.{inRange};
 ghost use Rattle.rule.specs.Rule.{cutsUpTo};
 ghost use Rattle.puts.specs.Puts.{Puts};
 ghost use Rattle.recording.specs.Stretches.{markFrom, Hops};
-use super::search::seek;
 use bays::shapes::end_of;
+use cutting::search::seek;
 use puts::Made;
 use terms::Settings;
 

@@ -12,7 +12,6 @@ use terms::Settings;
 
 pub mod cuts;
 pub mod marks;
-pub mod search;
 
 // How many offsets a record lists, and its marker.
 pub struct Recorded {

@@ -1,17 +1,17 @@
 // Slow mode: all marks of a stretch until the marker, and then the cuts.
 ghost use mathlib.Core.Path.{_≡_};
 ghost use mathlib.Core.Bool.{true};
-ghost use Prim.Native.Nat.{_+_, _-_, _≤_, _^_};
+ghost use Prim.Native.Nat.{_+_, _-_, _≤_, _<_, _^_};
 ghost use lib.ListN.{length};
 ghost use Rattle.signature.specs.Signatures.{signatureOf, window, leavingTable, pushedTable};
 ghost use Rattle.terms.specs.Settings.{inRange};
+ghost use Rattle.cutting.specs.Search.{Seek};
 ghost use Rattle.recording.specs.Records.{isMarker};
 ghost use Rattle.recording.specs.Stretches.{afterIn, slowIn, Records};
 use super::Recorded;
 use super::cuts::record_cuts;
-use super::search::Sought;
-use super::search::next_mark;
-use super::search::seek;
+use cutting::search::Sought;
+use cutting::search::seek;
 use puts::Made;
 use terms::Settings;
 
@@ -28,6 +28,38 @@ fn is_marker(minimum: u64, maximum: u64, before: u64, mark: u64) -> bool
         return false;
     }
     true
+}
+
+// The mark that follows a mark.
+fn next_mark(
+    settings: Settings,
+    stretch: &[u8],
+    spot: Sought,
+    leaving: &[u32; 256],
+    pushed: &[u32; 256],
+) -> Sought
+    requires { ⌜ inRange settings ≡ true ⌝ }
+    requires { ⌜ (48 ≤ spot .at) × (spot .at < length (now stretch)) × (spot .signature ≡ signatureOf (window (now stretch) (spot .at - 48))) ⌝ }
+    requires { ⌜ (now leaving ≡ leavingTable) × (now pushed ≡ pushedTable) ⌝ }
+    ensures { λ r. ⌜ Seek settings (now (stretch .entry)) (spot .at + 1) (length (now (stretch .entry))) r ⌝ }
+{
+    let at = spot.at;
+    let here = signature::roll(
+        spot.signature,
+        stretch[at - 48],
+        stretch[at],
+        leaving,
+        pushed,
+    );
+    seek(
+        settings,
+        stretch,
+        at + 1,
+        stretch.len(),
+        here,
+        leaving,
+        pushed,
+    )
 }
 
 // In slow mode from a mark on: every mark that follows it until the marker, and then the cuts.

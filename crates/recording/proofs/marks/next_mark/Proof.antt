@@ -1,10 +1,10 @@
--- `recording::search::next_mark` meets its contract: the window rolls on by one byte, and the search goes on.
+-- `recording::marks::next_mark` meets its contract: the window rolls on by one byte, and the search goes on.
 use borrow.Author.Needs.{needs}
 use native.Mathlib.Omega.{arith}
 use Rattle.signature.proofs.Windows.{signature-lt}
 use Rattle.cutting.proofs.Searching.{rolled-on}
-use Rattle.recording.proofs.search.next_mark.Statement.{statement}
-use Rattle.recording.proofs.search.next_mark.Tie as tie
+use Rattle.recording.proofs.marks.next_mark.Statement.{statement}
+use Rattle.recording.proofs.marks.next_mark.Tie as tie
 
 sub-roll : tie.Need-sub-roll
 sub-roll c = c .before .pre .1 .0 .0
