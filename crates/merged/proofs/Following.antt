@@ -8,7 +8,7 @@ use native.Mathlib.Omega.{arith}
 use lib.Dec.{eqb}
 use Rattle.laws.proofs.Cases.{by-lt, and-false}
 use Rattle.rule.specs.Rule.{hop, lastOr, cutsUpTo, Unmarked}
-use Rattle.rule.proofs.Hops.{UpTo, past, leap, up-to, stands, last-is, up-to-joined, hop-rises, unmarked-before}
+use Rattle.rule.proofs.Hops.{UpTo, past, leap, hop-to, up-to, stands, last-is, up-to-joined, hop-rises, unmarked-before}
 use Rattle.walk.specs.Walk.{forcedUpTo, readOffset, readAsMarks}
 use Rattle.rule.proofs.Leaps.{first-hop, forced-hop}
 use Rattle.walk.proofs.Offsets.{forced-rises, forced-up-to, forced-last, offset-near, offset-far, read-on}
@@ -20,7 +20,7 @@ up-to-moved hop rises d e h ahead (leap b r) = leap (le-trans (stands hop d rise
 
 -- one hop
 pub single : (hop : ℕ → ℕ) → ((c : ℕ) → c < hop c) → (c p : ℕ) → hop c ≡ p → UpTo hop p c (p ∷ []) p
-single hop rises c p e = subst (λ x. UpTo hop x c (x ∷ []) x) e (leap (omega arith) (past (rises (hop c))))
+single hop rises c p e = hop-to e (omega arith) (past (rises p))
 
 module _ (mark : ℕ → Bool) (lo hi : ℕ) where
   -- made are the cuts that follow c, m is the last of them or c, and no mark from m + minimum up to e

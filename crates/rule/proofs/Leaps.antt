@@ -1,13 +1,13 @@
 -- Where a hop ends: at the first mark, where the cut is forced, or past an offset. It depends on the marks up to there alone.
 use Prim.Native.Nat.{ℕ, suc, _+_, _-_, _≤_, _<_}
-use mathlib.Core.Path.{_≡_, sym, subst, _∙_}
+use mathlib.Core.Path.{_≡_, sym, _∙_}
 use mathlib.Core.Bool.{Bool, true}
-use mathlib.Core.List.{List, _∷_}
+use mathlib.Core.List.{List}
 use native.Mathlib.Omega.{arith}
 use Rattle.laws.proofs.Cases.{by-lt, clash}
 use Rattle.rule.specs.Rule.{hop, cutsUpTo, Unmarked}
 use Rattle.rule.proofs.First.{First, at-mark, none-there, first-is, first-at, first-none}
-use Rattle.rule.proofs.Hops.{UpTo, past, leap, up-to, listed, hop-rises}
+use Rattle.rule.proofs.Hops.{UpTo, past, leap, hop-to, up-to, listed, hop-rises}
 
 module _ (mark : ℕ → Bool) (lo hi c : ℕ) where
   pub first-hop : (b : ℕ) → c + lo ≤ b → b ≤ c + hi → mark b ≡ true → Unmarked mark (c + lo) b → hop mark lo hi c ≡ b
@@ -43,9 +43,7 @@ module _ (m m′ : ℕ → Bool) (lo hi : ℕ) (positive : 0 < lo) (order : lo �
       past (by-lt e (hop m′ lo hi c) (λ h. h) (λ h. absurd (omega (arith, hop-alike m′ m lo hi e c positive (λ q x y. sym (same q x y)) h))))
   up-to-alike same (leap {c = c} {l = l} {m = o} b r) =
       let up : c < hop m lo hi c = hop-rises m lo hi positive order c in
-      let here = hop-alike m m′ lo hi e c positive same b in
-      subst (λ x. UpTo (hop m′ lo hi) e c (x ∷ l) o) here
-      (leap (rw here b) (subst (λ x. UpTo (hop m′ lo hi) e x l o) (sym here) (up-to-alike (λ q x y. same q (omega arith) y) r)))
+      hop-to (hop-alike m m′ lo hi e c positive same b) b (up-to-alike (λ q x y. same q (omega arith) y) r)
 
   pub cuts-alike : (c : ℕ) → Agree m m′ e c → cutsUpTo m lo hi e c ≡ cutsUpTo m′ lo hi e c
   unfolding cutsUpTo

@@ -3,12 +3,12 @@ use mathlib.Core.Path.{_≡_, _∙_}
 use mathlib.Core.Bool.{Bool, true}
 use mathlib.Core.List.{List}
 use Prim.Native.Nat.{ℕ, _+_, _-_, _*_, _/_, _≤_}
-use native.Mathlib.Nat.{le-refl}
 use native.Mathlib.Omega.{arith}
 use lib.Dec.{leb}
 use lib.ListN.{length, take, drop, length-drop}
-use lib.Seq.{take-all, length-take-le}
+use lib.Seq.{length-take-le}
 use borrow.Author.Tests.{le-leb, leb-true, eqb-true}
+use Rattle.laws.proofs.Slices.{rest-from}
 use Rattle.laws.proofs.Cases.{both-true}
 use Rattle.terms.specs.Settings.{inRange}
 use Rattle.words.specs.Numbers.{numbersOf}
@@ -34,11 +34,8 @@ right-facts {t = t} ok =
 
 module _ (bytes : List ℕ) where
   -- bytes from a place on, as they are lent
-  lent-is : (k : ℕ) → take (length bytes - k) (drop k bytes) ≡ drop k bytes
-  lent-is k = take-all (length bytes - k) (drop k bytes) (rw length-drop (le-refl _))
-
   pub lent-long : (k n : ℕ) → k + n ≤ length bytes → n ≤ length (take (length bytes - k) (drop k bytes))
-  lent-long k n h = rw (lent-is k, length-drop) (omega arith)
+  lent-long k n h = rw (rest-from bytes k, length-drop) (omega arith)
 
   pub marked-is : {r : Bool} → 32 ≤ length bytes → r ≡ same mark (take (length bytes - 32 + 4 - (length bytes - 32)) (drop (length bytes - 32) bytes)) → r ≡ hasTrailer bytes
   unfolding hasTrailer trailerBytes
@@ -52,7 +49,7 @@ module _ (bytes : List ℕ) where
 
   pub trailer-is : {t : Trailer} → t ≡ trailerIn (take (length bytes - (length bytes - 32)) (drop (length bytes - 32) bytes)) → t ≡ trailerOf bytes
   unfolding trailerOf trailerBytes
-  trailer-is e = e ∙ rw (lent-is (length bytes - 32))
+  trailer-is e = e ∙ rw (rest-from bytes (length bytes - 32))
 
   module _ {t : Trailer} (e : t ≡ trailerOf bytes) (fits : t .distance ≤ length bytes - 32) where
     whole : length bytes - 32 - (length bytes - 32 - t .distance) ≡ t .distance
@@ -60,7 +57,7 @@ module _ (bytes : List ℕ) where
 
     pub sheet-is : take (length bytes - (length bytes - 32 - t .distance)) (drop (length bytes - 32 - t .distance) bytes) ≡ sheetIn bytes
     unfolding sheetIn
-    sheet-is = rw e (lent-is (length bytes - 32 - trailerOf bytes .distance))
+    sheet-is = rw e (rest-from bytes (length bytes - 32 - trailerOf bytes .distance))
 
     pub list-is : numbersOf 8 (take (length bytes - 32 - (length bytes - 32 - t .distance)) (drop (length bytes - 32 - t .distance) bytes)) ≡ listIn bytes
     unfolding listIn sheetIn

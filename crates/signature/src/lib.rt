@@ -43,11 +43,3 @@ pub fn of_window(bytes: &[u8], at: usize, pushed: &[u32; 256]) -> u32
     }
     signature
 }
-
-// The signature of 48 bytes kept by themselves.
-pub fn of_array(bytes: &[u8; 48], pushed: &[u32; 256]) -> u32
-    requires { ⌜ now pushed ≡ pushedTable ⌝ }
-    ensures { λ r. ⌜ r ≡ signatureOf (now (bytes .entry)) ⌝ }
-{
-    of_window(&bytes[..], 0, pushed)
-}

@@ -1,6 +1,6 @@
 -- Comparing two runs of bytes one by one.
 use mathlib.Core.Path.{_≡_, refl, ap, _∙_}
-use mathlib.Core.Bool.{Bool, true, false, _&&_}
+use mathlib.Core.Bool.{true, false, _&&_}
 use mathlib.Core.List.{List, [], _∷_}
 use Prim.Native.Nat.{ℕ, suc, _+_, _≤_, _<_}
 use native.Mathlib.Omega.{arith}
@@ -9,6 +9,7 @@ use lib.Dec.{eqb}
 use borrow.Author.Tests.{eq-eqb, ne-eqb}
 use lib.ListN.{length, getD, drop, drop-of-length-le}
 use lib.Seq.{drop-cons}
+use Rattle.laws.proofs.Cases.{and-false}
 use Rattle.words.specs.Runs.{same}
 
 pub same-unequal : (a b : List ℕ) → (length a ≡ length b → ⊥) → same a b ≡ false
@@ -17,10 +18,6 @@ same-unequal [] [] ne = absurd (ne refl)
 same-unequal [] (y ∷ b) ne = refl
 same-unequal (x ∷ a) [] ne = refl
 same-unequal (x ∷ a) (y ∷ b) ne = rw (same-unequal a b (λ e. ne (ap suc e))) (and-false (eqb x y))
-  where
-    and-false : (t : Bool) → (t && false) ≡ false
-    and-false true = refl
-    and-false false = refl
 
 module _ (a b : List ℕ) (i : ℕ) (equal : length a ≡ length b) where
   -- from place i on two runs are the same where their bytes at i are, and those after
