@@ -1,17 +1,16 @@
 -- Marks and hops found in a stretch, as the code finds them.
-use Prim.Native.Nat.{ℕ, suc, _+_, _-_, _*_, _%_, _^_, _≤_, _<_, min}
+use Prim.Native.Nat.{ℕ, suc, _+_, _-_, _≤_, _<_, min}
 use mathlib.Core.Path.{_≡_, ap, _∙_}
-use mathlib.Core.Bool.{Bool, true, false}
+use mathlib.Core.Bool.{true, false}
 use mathlib.Core.List.{List, [], _∷_}
 use native.Mathlib.Nat.{add-zero}
 use native.Mathlib.Omega.{arith}
-use lib.Bits.{bitAnd}
 use lib.ListN.{length, set}
-use Rattle.laws.proofs.Cases.{by-lt, clash}
+use Rattle.laws.proofs.Cases.{by-lt}
 use Rattle.terms.proofs.Ranges.{Ranges}
 use Rattle.rule.proofs.Leaps.{first-hop, forced-hop, past-hop}
 use Rattle.terms.specs.declared.Settings.{Settings}
-use Rattle.rule.specs.Rule.{hop, hops, cutsUpTo, Unmarked}
+use Rattle.rule.specs.Rule.{hop, hops, cutsUpTo}
 use Rattle.rule.proofs.First.{first-moves}
 use Rattle.rule.proofs.Hops.{past, leap, up-to, listed, hop-long, hop-rises}
 use Rattle.cutting.specs.Marks.{mark}

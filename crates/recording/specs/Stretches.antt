@@ -1,11 +1,10 @@
 -- A segment with its lead-in as a stretch inside the log: its marks, and what the inner functions find in it.
 use Prim.Native.Nat.{ℕ, _+_, _-_, _≤_, _<_}
 use mathlib.Core.Path.{_≡_}
-use mathlib.Core.Bool.{Bool, false}
+use mathlib.Core.Bool.{Bool}
 use mathlib.Core.List.{List}
 use lib.ListN.{length}
-use Rattle.rule.specs.Rule.{hop, Unmarked}
-use Rattle.signature.specs.Signatures.{signatureOf, window}
+use Rattle.rule.specs.Rule.{hop}
 use Rattle.terms.specs.declared.Settings.{Settings}
 use Rattle.cutting.specs.Marks.{mark}
 use lib.Seq.{sets}
