@@ -51,3 +51,10 @@ pub fn put(list: &mut [u64], place: u64, entry: u64)
         list[place as usize] = entry;
     }
 }
+
+// Cuts made one after the other and put into a lent list: how many, and the last of them. They are counted on past a full list, which no
+// longer takes them, so that only the end asks whether all were written.
+pub struct Made {
+    pub count: u64,
+    pub cut: u64,
+}

@@ -13,9 +13,9 @@ use Rattle.rule.specs.Rule.{cutsUpTo}
 use Rattle.signature.specs.Signatures.{window}
 use Rattle.cutting.specs.Marks.{mark}
 use Rattle.cutting.proofs.Marked.{mark-low, marks-agree}
-use Rattle.puts.specs.declared.Made.{Made}
+use Rattle.lists.specs.declared.Made.{Made}
 use Rattle.recording.specs.declared.Recorded.{Recorded}
-use Rattle.puts.specs.Puts.{Puts}
+use Rattle.lists.specs.Puts.{Puts}
 use Rattle.bays.specs.Segments.{segmentStart, segmentEnd, There}
 use Rattle.bays.specs.Bays.{Record}
 use Rattle.recording.specs.Records.{segmentRecord, slowRecord, marksIn, segmentOf}

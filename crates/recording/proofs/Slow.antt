@@ -11,17 +11,17 @@ use Rattle.rule.specs.Rule.{Unmarked, cutsUpTo}
 use Rattle.signature.specs.Signatures.{signatureOf, window}
 use Rattle.terms.specs.declared.Settings.{Settings}
 use Rattle.cutting.specs.Marks.{mark}
-use Rattle.puts.specs.declared.Made.{Made}
+use Rattle.lists.specs.declared.Made.{Made}
 use Rattle.cutting.specs.declared.search.Sought.{Sought}
 use Rattle.recording.specs.declared.Recorded.{Recorded}
-use Rattle.puts.specs.Puts.{Puts}
+use Rattle.lists.specs.Puts.{Puts}
 use Rattle.bays.specs.Bays.{Record}
 use Rattle.recording.specs.Records.{recordAfter, slowRecord, marksAmong, marksIn, isMarker, prepend}
 use Rattle.recording.specs.Stretches.{markFrom, afterIn, slowIn, Records}
 use Rattle.cutting.specs.Search.{Seek}
 use Rattle.recording.proofs.Marking.{marks-next, marks-none}
 use Rattle.recording.proofs.After.{at-marker, no-marker}
-use Rattle.puts.proofs.Putting.{Underway, begin, one-more, rest-is, ended, all-made}
+use Rattle.lists.proofs.Putting.{Underway, begin, one-more, rest-is, ended, all-made}
 
 -- the marks of a stretch past an offset, which a search found or not
 module _ (s : Settings) (stretch : List ℕ) (base at : ℕ) (next : Sought) (inside : at < length stretch) (k : Seek s stretch (at + 1) (length stretch) next) where

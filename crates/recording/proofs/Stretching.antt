@@ -17,9 +17,9 @@ use Rattle.cutting.specs.Marks.{mark}
 use Rattle.cutting.specs.declared.search.Sought.{Sought}
 use Rattle.cutting.specs.Search.{Seek}
 use Rattle.cutting.proofs.Searching.{none-found}
-use Rattle.puts.specs.declared.Made.{Made}
-use Rattle.puts.specs.Puts.{Puts}
-use Rattle.puts.proofs.Putting.{Underway, one-more, rest-is, ended}
+use Rattle.lists.specs.declared.Made.{Made}
+use Rattle.lists.specs.Puts.{Puts}
+use Rattle.lists.proofs.Putting.{Underway, one-more, rest-is, ended}
 use Rattle.recording.specs.Stretches.{markFrom, Hops}
 
 -- the hop from a cut of the stretch, for each way the code goes

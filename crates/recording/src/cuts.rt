@@ -6,11 +6,11 @@ ghost use lib.ListN.{length};
 ghost use Rattle.signature.specs.Signatures.{leavingTable, pushedTable};
 ghost use Rattle.terms.specs.Settings.{inRange};
 ghost use Rattle.rule.specs.Rule.{cutsUpTo};
-ghost use Rattle.puts.specs.Puts.{Puts};
+ghost use Rattle.lists.specs.Puts.{Puts};
 ghost use Rattle.recording.specs.Stretches.{markFrom, Hops};
 use bays::shapes::end_of;
 use cutting::search::seek;
-use puts::Made;
+use lists::Made;
 use terms::Settings;
 
 // The cut that follows a cut of a stretch if it stays in it, whatever follows; else an offset past the end.

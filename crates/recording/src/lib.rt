@@ -7,7 +7,7 @@ ghost use Rattle.cutting.specs.Marks.{mark};
 ghost use Rattle.recording.specs.Stretches.{Records};
 ghost use Rattle.bays.specs.Segments.{There};
 ghost use Rattle.recording.specs.Records.{segmentOf};
-use puts::Made;
+use lists::Made;
 use terms::Settings;
 
 pub mod cuts;

@@ -12,7 +12,7 @@ use super::Recorded;
 use super::cuts::record_cuts;
 use cutting::search::Sought;
 use cutting::search::seek;
-use puts::Made;
+use lists::Made;
 use terms::Settings;
 
 // Whether a mark is the marker, after its neighbour before it.

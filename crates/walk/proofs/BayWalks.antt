@@ -12,16 +12,16 @@ use Rattle.rule.proofs.Hops.{still-open, already}
 use Rattle.cutting.specs.WholeLog.{writtenList}
 use Rattle.terms.specs.declared.Settings.{Settings}
 use Rattle.bays.specs.declared.Verdict.the-variants.{Granted}
-use Rattle.puts.specs.declared.Made.{Made}
+use Rattle.lists.specs.declared.Made.{Made}
 use Rattle.bays.specs.Segments.{segments, segmentStart, segmentEnd}
 use Rattle.bays.specs.Bays.{Record, bayOf, isDone, offsetCount, recordIn, risesWithin}
 use Rattle.walk.specs.Walk.{forcedUpTo, readAsMarks, bayCuts, baysCuts, lastCuts, walk, boardWalk}
-use Rattle.puts.specs.Puts.{Puts}
+use Rattle.lists.specs.Puts.{Puts}
 use Rattle.bays.specs.Judging.{baysJudged}
 use Rattle.bays.proofs.Ranges.{length-bay, reach, from-reach, to-reach, spans}
 use Rattle.walk.proofs.Rises.{rises-wider}
 use Rattle.bays.proofs.Verdicts.{Judged, each-granted}
-use Rattle.puts.proofs.Putting.{puts-are, Underway, begin, more, one-more, ended, rest-is, all-made}
+use Rattle.lists.proofs.Putting.{puts-are, Underway, begin, more, one-more, ended, rest-is, all-made}
 use Rattle.laws.proofs.Sets.{sets-written}
 use Rattle.walk.proofs.Lasts.{bay-last}
 

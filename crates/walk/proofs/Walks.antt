@@ -9,14 +9,14 @@ use lib.ListN.{length, getD, set, drop}
 use borrow.Author.Tests.{eq-eqb, ne-eqb, eqb-true}
 use Rattle.laws.proofs.Cases.{by-lt, by-test, and-false}
 use Rattle.rule.specs.Rule.{lastOr}
-use Rattle.puts.specs.declared.Made.{Made}
+use Rattle.lists.specs.declared.Made.{Made}
 use Rattle.bays.specs.Bays.{risesWithin}
 use Rattle.walk.specs.Walk.{forcedUpTo, readOffset, readAsMarks}
-use Rattle.puts.specs.Puts.{Puts}
+use Rattle.lists.specs.Puts.{Puts}
 use Rattle.laws.proofs.Last.{last-joined}
 use Rattle.walk.proofs.Offsets.{forced-last, offset-near, offset-far, read-on, read-switch}
 use Rattle.walk.proofs.Rises.{offsets-on, offsets-end, rises-wider, rest-rises, next-rises}
-use Rattle.puts.proofs.Putting.{Underway, begin, more, one-more, ended, rest-is}
+use Rattle.lists.proofs.Putting.{Underway, begin, more, one-more, ended, rest-is}
 
 -- an offset, once the cuts below it are forced
 module _ (lo hi p : ℕ) (before forced : Made) (list₀ list : List ℕ) (positive : 1 ≤ hi) (above : before .cut < p) (ordered : before .count ≤ before .cut)

@@ -8,10 +8,10 @@ ghost use Rattle.bays.specs.declared.Verdict.the-variants.{Granted};
 ghost use Rattle.bays.specs.Segments.{segments, boardFits};
 ghost use Rattle.bays.specs.Bays.{bayOf, recordIn, offsetCount, isDone, risesWithin};
 ghost use Rattle.walk.specs.Walk.{bayCuts, baysCuts, lastCuts, boardWalk};
-ghost use Rattle.puts.specs.Puts.{Puts};
+ghost use Rattle.lists.specs.Puts.{Puts};
 ghost use Rattle.bays.specs.Judging.{baysJudged};
 ghost use Rattle.cutting.specs.WholeLog.{writtenList};
-use puts::Made;
+use lists::Made;
 use terms::Settings;
 
 pub mod reading;

@@ -4,8 +4,8 @@ ghost use mathlib.Core.Bool.{true};
 ghost use Prim.Native.Nat.{_≤_, _<_, _^_};
 ghost use Rattle.bays.specs.Bays.{risesWithin};
 ghost use Rattle.walk.specs.Walk.{forcedUpTo, readOffset, readAsMarks};
-ghost use Rattle.puts.specs.Puts.{Puts};
-use puts::Made;
+ghost use Rattle.lists.specs.Puts.{Puts};
+use lists::Made;
 
 // The cuts that maximum forces, up to an offset.
 pub fn force_cuts(list: &mut [u64], made: Made, last: u64, maximum: u64) -> Made

@@ -6,7 +6,7 @@ use Rattle.terms.proofs.Ranges.{ranges}
 use Rattle.bays.proofs.Ranges.{begins-below}
 use Rattle.recording.proofs.Parts.{stretch-long, stretch-fine, from-zero, from-stretch, lead}
 use Rattle.recording.proofs.Slow.{records-long}
-use Rattle.puts.proofs.Putting.{puts-long}
+use Rattle.lists.proofs.Putting.{puts-long}
 use Rattle.recording.proofs.record_segment.Statement.{statement}
 use Rattle.recording.proofs.record_segment.Tie as tie
 

@@ -4,7 +4,7 @@ use mathlib.Core.Path.{sym, ap, _∙_}
 use Rattle.bays.specs.Bays.{recordIn}
 use Rattle.walk.specs.Walk.{readAsMarks}
 use Rattle.walk.proofs.BayWalks.{first-bay, later-bay}
-use Rattle.puts.proofs.Putting.{puts-are, puts-long}
+use Rattle.lists.proofs.Putting.{puts-are, puts-long}
 use Rattle.walk.proofs.walk_bay.Statement.{statement}
 use Rattle.walk.proofs.walk_bay.Tie as tie
 

@@ -5,7 +5,7 @@ use native.Mathlib.Omega.{arith}
 use Rattle.terms.proofs.Ranges.{ranges}
 use Rattle.bays.proofs.Ranges.{board-shape, bay-within, reach-within}
 use Rattle.walk.proofs.BayWalks.{Walking, start, next-bay, all-walked, ready, low-after}
-use Rattle.puts.proofs.Putting.{same-long}
+use Rattle.lists.proofs.Putting.{same-long}
 use Rattle.walk.proofs.walk_bays.Statement.{statement}
 use Rattle.walk.proofs.walk_bays.Tie as tie
 

@@ -3,7 +3,7 @@ use mathlib.Core.Path.{_∙_}
 use native.Mathlib.Omega.{arith}
 use Rattle.terms.proofs.Ranges.{ranges}
 use Rattle.walk.proofs.BayWalks.{walk-counted, walk-written}
-use Rattle.puts.proofs.Putting.{puts-long}
+use Rattle.lists.proofs.Putting.{puts-long}
 use Rattle.walk.proofs.walk_board.Statement.{statement}
 use Rattle.walk.proofs.walk_board.Tie as tie
 

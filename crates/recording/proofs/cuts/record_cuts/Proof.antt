@@ -5,7 +5,7 @@ use native.Mathlib.Omega.{arith}
 use lib.ListN.{length}
 use Rattle.terms.proofs.Ranges.{ranges}
 use Rattle.recording.proofs.Stretching.{rises-past, Cutting, cut-on, cuts-done, hop-later}
-use Rattle.puts.proofs.Putting.{begin, same-long}
+use Rattle.lists.proofs.Putting.{begin, same-long}
 use Rattle.recording.proofs.cuts.record_cuts.Statement.{statement}
 use Rattle.recording.proofs.cuts.record_cuts.Tie as tie
 

@@ -7,7 +7,7 @@ use borrow.Author.Tests.{not-true, not-false}
 use lib.ListN.{length}
 use Rattle.terms.proofs.Ranges.{ranges}
 use Rattle.recording.proofs.Slow.{Slowly, slow-start, slow-none, slow-on, slow-marker, slow-end, records-long}
-use Rattle.puts.proofs.Putting.{same-long}
+use Rattle.lists.proofs.Putting.{same-long}
 use Rattle.recording.proofs.marks.record_after.Statement.{statement}
 use Rattle.recording.proofs.marks.record_after.Tie as tie
 

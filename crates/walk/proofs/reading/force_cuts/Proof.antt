@@ -4,7 +4,7 @@ use Prim.Native.Nat.{_≤_, _-_}
 use native.Mathlib.Omega.{arith}
 use Rattle.walk.specs.Walk.{forcedUpTo}
 use Rattle.walk.proofs.Offsets.{forced-none, forced-more}
-use Rattle.puts.proofs.Putting.{Underway, begin, same-long, rest-is, one-more, ended}
+use Rattle.lists.proofs.Putting.{Underway, begin, same-long, rest-is, one-more, ended}
 use Rattle.walk.proofs.reading.force_cuts.Statement.{statement}
 use Rattle.walk.proofs.reading.force_cuts.Tie as tie
 

@@ -10,7 +10,7 @@ use Rattle.walk.specs.Walk.{readAsMarks}
 use Rattle.walk.proofs.Rises.{next-rises}
 use Rattle.laws.proofs.Slices.{rest-from}
 use Rattle.walk.proofs.Walks.{marks-on, marks-switch, still-rises, marks-end}
-use Rattle.puts.proofs.Putting.{Underway, begin, same-long, rest-is, ended, all-made, puts-long}
+use Rattle.lists.proofs.Putting.{Underway, begin, same-long, rest-is, ended, all-made, puts-long}
 use Rattle.walk.proofs.reading.read_as_marks.Statement.{statement}
 use Rattle.walk.proofs.reading.read_as_marks.Tie as tie
 

@@ -7,7 +7,7 @@ use native.Mathlib.Omega.{arith}
 use lib.ListN.{length, drop}
 use Rattle.bays.specs.Bays.{risesWithin}
 use Rattle.walk.proofs.Rises.{next-rises, rest-rises, offsets-on, offsets-end}
-use Rattle.puts.proofs.Putting.{Underway, begin, same-long, rest-is, one-more, ended}
+use Rattle.lists.proofs.Putting.{Underway, begin, same-long, rest-is, one-more, ended}
 use Rattle.walk.proofs.reading.take_offsets.Statement.{statement}
 use Rattle.walk.proofs.reading.take_offsets.Tie as tie
 

@@ -5,7 +5,7 @@ use mathlib.Core.List.{List}
 use lib.ListN.{length}
 use lib.Seq.{sets}
 use Rattle.laws.specs.Last.{lastOr}
-use Rattle.puts.specs.declared.Made.{Made}
+use Rattle.lists.specs.declared.Made.{Made}
 
 -- what a step leaves that starts from the cuts `before`: these cuts are made, and written from the next place on as far as the list goes
 pub record Puts (cuts : List ℕ) (before after : Made) (list₀ list : List ℕ) : Type 0 where

@@ -7,8 +7,8 @@ use native.Mathlib.Omega.{arith}
 use lib.ListN.{length, set, length-append}
 use lib.Seq.{sets, length-sets}
 use Rattle.laws.specs.Last.{lastOr}
-use Rattle.puts.specs.declared.Made.{Made}
-use Rattle.puts.specs.Puts.{Puts}
+use Rattle.lists.specs.declared.Made.{Made}
+use Rattle.lists.specs.Puts.{Puts}
 use Rattle.laws.proofs.Last.{last-joined}
 use Rattle.laws.proofs.Sets.{sets-joined}
 
