@@ -10,8 +10,8 @@ ghost use Rattle.recording.specs.Records.{segmentOf};
 use lists::Made;
 use terms::Settings;
 
-pub mod cuts;
-pub mod marks;
+mod cuts;
+mod marks;
 
 // How many offsets a record lists, and its marker.
 pub struct Recorded {

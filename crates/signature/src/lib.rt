@@ -8,7 +8,7 @@ ghost use Rattle.signature.specs.Signatures.{degree, lowPart, span, grow
 pub mod tables;
 
 // A byte enters: the signature is shifted by 8, what is pushed out of it comes back reduced, and the new byte is added.
-pub fn push(signature: u32, enters: u8, pushed: &[u32; 256]) -> u32
+fn push(signature: u32, enters: u8, pushed: &[u32; 256]) -> u32
     requires { ⌜ (signature < 2 ^ degree) × (now pushed ≡ pushedTable) ⌝ }
     ensures { λ r. ⌜ r ≡ grown degree lowPart signature enters ⌝ }
 {

@@ -14,7 +14,7 @@ ghost use Rattle.cutting.specs.WholeLog.{writtenList};
 use lists::Made;
 use terms::Settings;
 
-pub mod reading;
+mod reading;
 
 // The cuts of one bay that is done and not malformed.
 fn walk_bay(list: &mut [u64], made: Made, i: u64, bay: &[u64], minimum: u64, maximum: u64) -> Made
