@@ -14,16 +14,16 @@ use Rattle.laws.specs.Over.{over}
 use Rattle.laws.proofs.Writing.{over-full}
 use Rattle.terms.specs.declared.Refusal.the-variants.{RecordTooLong}
 use Rattle.terms.specs.declared.Answer.the-variants.{Wrote, Refused}
-use Rattle.recording.specs.declared.Recorded.{Recorded}
-use Rattle.bays.specs.Bays.{Record, entries}
+use Rattle.board_record.specs.declared.Recorded.{Recorded}
+use Rattle.board_bays.specs.Bays.{Record, entries}
 use Rattle.terms.specs.Answers.{longest}
-use Rattle.bays.specs.Segments.{segments, shapeFits, boardFits, bayFits, segmentFits, There}
+use Rattle.board_bays.specs.Segments.{segments, shapeFits, boardFits, bayFits, segmentFits, There}
 use Rattle.board.specs.Recording.{recordFits, recordAnswer, recorded, withBay}
-use Rattle.recording.specs.Stretches.{Records}
+use Rattle.board_record.specs.Stretches.{Records}
 use Rattle.laws.proofs.Sets.{sets-written}
 use Rattle.laws.proofs.Slices.{rest-from}
-use Rattle.bays.proofs.Ranges.{sizes, bay-lent, bay-inside, length-bay}
-use Rattle.bays.specs.Bays.{bayOf}
+use Rattle.board_bays.proofs.Ranges.{sizes, bay-lent, bay-inside, length-bay}
+use Rattle.board_bays.specs.Bays.{bayOf}
 
 -- the record's offsets were written from entry 2 on, as far as the bay goes
 module _ (r : Record) (rec : Recorded) (bay part : List ℕ) (wide : 2 ≤ length bay) (w : Records r 0 rec (take (length bay - 2) (drop 2 bay)) part) where

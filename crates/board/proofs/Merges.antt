@@ -11,13 +11,13 @@ use Rattle.terms.specs.declared.Refusal.{Refusal}
 use Rattle.terms.specs.declared.Refusal.the-variants.{RoomTooShort, ListFull}
 use Rattle.terms.specs.declared.Answer.the-variants.{Wrote, Refused}
 use Rattle.terms.specs.Answers.{roomFor}
-use Rattle.bays.specs.declared.Verdict.{Verdict}
-use Rattle.bays.specs.declared.Verdict.the-variants.{Granted, Denied}
-use Rattle.bays.specs.Segments.{segments, boardFits}
-use Rattle.bays.specs.Judging.{judged, baysJudged}
+use Rattle.board_bays.specs.declared.Verdict.{Verdict}
+use Rattle.board_bays.specs.declared.Verdict.the-variants.{Granted, Denied}
+use Rattle.board_bays.specs.Segments.{segments, boardFits}
+use Rattle.board_bays.specs.Judging.{judged, baysJudged}
 use Rattle.board.specs.Merging.{mergeJudged, mergeAnswer, mergeList}
-use Rattle.walk.specs.Walk.{boardWalk}
-use Rattle.bays.proofs.Verdicts.{verdict-is}
+use Rattle.board_walk.specs.Walk.{boardWalk}
+use Rattle.board_bays.proofs.Verdicts.{verdict-is}
 
 module _ (s : Settings) (n size width : ℕ) (board list : List ℕ) where
   module _ {v : Verdict} {fits : Bool} (told : v ≡ judged s n fits) (fit : fits ≡ boardFits size width n (length board)) where

@@ -9,11 +9,11 @@ use Rattle.terms.specs.declared.Answer.{Answer}
 use Rattle.terms.specs.declared.Answer.the-variants.{Refused}
 use Rattle.terms.specs.Answers.{roomFor, unless}
 use Rattle.cutting.specs.WholeLog.{writtenAnswer, writtenList}
-use Rattle.bays.specs.declared.Verdict.{Verdict}
-use Rattle.bays.specs.declared.Verdict.the-variants.{Denied}
-use Rattle.bays.specs.Judging.{judged, ifGranted, baysJudged}
-use Rattle.walk.specs.Walk.{boardWalk}
-use Rattle.bays.specs.Segments.{segments, boardFits}
+use Rattle.board_bays.specs.declared.Verdict.{Verdict}
+use Rattle.board_bays.specs.declared.Verdict.the-variants.{Denied}
+use Rattle.board_bays.specs.Judging.{judged, ifGranted, baysJudged}
+use Rattle.board_walk.specs.Walk.{boardWalk}
+use Rattle.board_bays.specs.Segments.{segments, boardFits}
 
 -- rows 1, 2, 7, 5, then bays from the lowest, 8 before 9
 unfoldable pub mergeJudged : Settings → ℕ → ℕ → ℕ → List ℕ → ℕ → Verdict

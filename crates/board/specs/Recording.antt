@@ -10,10 +10,10 @@ use Rattle.terms.specs.declared.Answer.{Answer}
 use Rattle.terms.specs.declared.Answer.the-variants.{Wrote, Refused}
 use Rattle.terms.specs.declared.Settings.{Settings}
 use Rattle.terms.specs.Answers.{unless}
-use Rattle.bays.specs.Segments.{bayFits, segmentFits}
-use Rattle.bays.specs.Bays.{Record, entries, bayOf}
-use Rattle.bays.specs.Judging.{judged, ifGranted}
-use Rattle.recording.specs.Records.{segmentOf}
+use Rattle.board_bays.specs.Segments.{bayFits, segmentFits}
+use Rattle.board_bays.specs.Bays.{Record, entries, bayOf}
+use Rattle.board_bays.specs.Judging.{judged, ifGranted}
+use Rattle.board_record.specs.Records.{segmentOf}
 
 -- the record is not longer than its bay
 unfoldable pub recordFits : Record → ℕ → Bool

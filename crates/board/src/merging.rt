@@ -2,7 +2,7 @@
 ghost use mathlib.Core.Path.{_≡_};
 ghost use lib.ListN.{length};
 ghost use Rattle.board.specs.Merging.{mergeAnswer, mergeList};
-use bays::Verdict;
+use board_bays::Verdict;
 use terms::Answer;
 use terms::Refusal;
 use terms::Settings;
@@ -19,8 +19,8 @@ pub fn merge(
     ensures { λ r. ⌜ r ≡ mergeAnswer settings n size width (now (board .entry)) (length (now (list .entry))) ⌝ }
     ensures { λ r. ⌜ now (list .exit) ≡ mergeList settings n size width (now (board .entry)) (now (list .entry)) ⌝ }
 {
-    let fits = bays::shapes::board_fits(size, width, n, board.len() as u64);
-    match bays::shapes::judge(settings, n, fits) {
+    let fits = board_bays::shapes::board_fits(size, width, n, board.len() as u64);
+    match board_bays::shapes::judge(settings, n, fits) {
         Verdict::Denied(why) => return Answer::Refused(why),
         Verdict::Granted => {}
     }
@@ -29,11 +29,11 @@ pub fn merge(
     if places < n / minimum + 1 {
         return Answer::Refused(Refusal::RoomTooShort);
     }
-    match bays::judging::judge_bays(settings, size, width, n, board) {
+    match board_bays::judging::judge_bays(settings, size, width, n, board) {
         Verdict::Denied(why) => return Answer::Refused(why),
         Verdict::Granted => {}
     }
-    let count = walk::walk_board(list, settings, n, size, width, board);
+    let count = board_walk::walk_board(list, settings, n, size, width, board);
     if count > places {
         return Answer::Refused(Refusal::ListFull);
     }

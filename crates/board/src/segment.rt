@@ -5,10 +5,10 @@ ghost use Prim.Native.Nat.{_≤_};
 ghost use lib.ListN.{length};
 ghost use Rattle.terms.specs.Settings.{inRange};
 ghost use Rattle.cutting.specs.Marks.{mark};
-ghost use Rattle.bays.specs.Segments.{There};
-ghost use Rattle.recording.specs.Records.{segmentOf};
+ghost use Rattle.board_bays.specs.Segments.{There};
+ghost use Rattle.board_record.specs.Records.{segmentOf};
 ghost use Rattle.board.specs.Recording.{recordAnswer, recorded, bayAnswer, bayAfter, segmentAnswer, segmentBoard};
-use bays::Verdict;
+use board_bays::Verdict;
 use terms::Answer;
 use terms::Refusal;
 use terms::Settings;
@@ -20,7 +20,7 @@ fn fill_bay(settings: Settings, log: &[u8], size: u64, i: u64, bay: &mut [u64]) 
     ensures { λ r. ⌜ now (bay .exit) ≡ recorded (segmentOf (mark settings (now (log .entry))) settings (length (now (log .entry))) size i) (now (bay .entry)) ⌝ }
 {
     let places = bay.len() as u64 - 2;
-    let recorded = recording::record_segment(settings, log, size, i, &mut bay[2..]);
+    let recorded = board_record::record_segment(settings, log, size, i, &mut bay[2..]);
     if recorded.count > places {
         bay[0] = 0;
         bay[1] = 0;
@@ -37,8 +37,8 @@ pub fn record_bay(settings: Settings, log: &[u8], size: u64, i: u64, bay: &mut [
     ensures { λ r. ⌜ now (bay .exit) ≡ bayAfter (mark settings (now (log .entry))) settings (length (now (log .entry))) size i (now (bay .entry)) ⌝ }
 {
     let n = log.len() as u64;
-    let fits = bays::shapes::bay_fits(size, bay.len() as u64, n, i);
-    match bays::shapes::judge(settings, n, fits) {
+    let fits = board_bays::shapes::bay_fits(size, bay.len() as u64, n, i);
+    match board_bays::shapes::judge(settings, n, fits) {
         Verdict::Denied(why) => return Answer::Refused(why),
         Verdict::Granted => {}
     }
@@ -58,8 +58,8 @@ pub fn segment(
     ensures { λ r. ⌜ now (board .exit) ≡ segmentBoard (mark settings (now (log .entry))) settings (length (now (log .entry))) size i width (now (board .entry)) ⌝ }
 {
     let n = log.len() as u64;
-    let fits = bays::shapes::segment_fits(size, width, n, i, board.len() as u64);
-    match bays::shapes::judge(settings, n, fits) {
+    let fits = board_bays::shapes::segment_fits(size, width, n, i, board.len() as u64);
+    match board_bays::shapes::judge(settings, n, fits) {
         Verdict::Denied(why) => return Answer::Refused(why),
         Verdict::Granted => {}
     }

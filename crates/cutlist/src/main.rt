@@ -1,4 +1,4 @@
 // Prints the cuts of standard input. Here it is held to an input over several blocks.
 fn main() {
-    listing::list_input();
+    cutlist_program::list_input();
 }

@@ -1,4 +1,4 @@
 // The program cutlist, held to what it prints for 70,000 zero bytes.
 fn main() {
-    listing::list_input();
+    cutlist_program::list_input();
 }

@@ -2,11 +2,11 @@
 // back.
 use super::logs::all_bits;
 use super::show;
-use carry::Carry;
-use carry::Outcome;
 use pass::block;
 use pass::close;
 use pass::fresh;
+use pass_carry::Carry;
+use pass_carry::Outcome;
 use terms::Settings;
 
 // A carry at 48/200 whose last 48 bytes are zeros.

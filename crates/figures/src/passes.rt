@@ -4,10 +4,10 @@ use super::logs;
 use super::logs::all_bits;
 use super::logs::eight_bits;
 use super::show;
-use carry::Carry;
 use pass::block;
 use pass::close;
 use pass::fresh;
+use pass_carry::Carry;
 use terms::Answer;
 use terms::Settings;
 

@@ -11,14 +11,14 @@ use Rattle.terms.specs.declared.Refusal.the-variants.{LogTooLong, RoomTooShort}
 use Rattle.terms.specs.Answers.{longest, roomFor}
 use Rattle.cutting.specs.WholeLog.{writtenList}
 use Rattle.cutting.proofs.Written.{written-none}
-use Rattle.carry.specs.declared.Carry.{Carry}
-use Rattle.carry.specs.declared.order.Verdict.{Verdict}
-use Rattle.carry.specs.declared.order.Verdict.the-variants.{Fine, Wrong}
-use Rattle.carry.specs.Carries.{blockTaken, cutsIn}
-use Rattle.carry.specs.Outcomes.{refused, wrote, carryRows}
-use Rattle.carry.proofs.Room.{enough-room}
-use Rattle.carry.proofs.Rows.{refused-by, admitted-by}
-use Rattle.taking.specs.Taking.{takenOf}
+use Rattle.pass_carry.specs.declared.Carry.{Carry}
+use Rattle.pass_carry.specs.declared.order.Verdict.{Verdict}
+use Rattle.pass_carry.specs.declared.order.Verdict.the-variants.{Fine, Wrong}
+use Rattle.pass_carry.specs.Carries.{blockTaken, cutsIn}
+use Rattle.pass_carry.specs.Outcomes.{refused, wrote, carryRows}
+use Rattle.pass_carry.proofs.Room.{enough-room}
+use Rattle.pass_carry.proofs.Rows.{refused-by, admitted-by}
+use Rattle.pass_block.specs.Taking.{takenOf}
 use Rattle.pass.specs.Calls.{blockOf, blockList}
 
 -- no bytes: nothing is taken and nothing written

@@ -12,12 +12,12 @@ use Rattle.terms.specs.declared.Refusal.{Refusal}
 use Rattle.terms.specs.declared.Refusal.the-variants.{RoomTooShort}
 use Rattle.cutting.specs.WholeLog.{writtenList}
 use Rattle.cutting.proofs.Written.{written-none, written-whole}
-use Rattle.carry.specs.declared.Carry.{Carry}
-use Rattle.carry.specs.declared.order.Verdict.{Verdict}
-use Rattle.carry.specs.declared.order.Verdict.the-variants.{Fine, Wrong}
-use Rattle.carry.specs.Outcomes.{refused, wrote, carryRows}
+use Rattle.pass_carry.specs.declared.Carry.{Carry}
+use Rattle.pass_carry.specs.declared.order.Verdict.{Verdict}
+use Rattle.pass_carry.specs.declared.order.Verdict.the-variants.{Fine, Wrong}
+use Rattle.pass_carry.specs.Outcomes.{refused, wrote, carryRows}
 use Rattle.pass.specs.Calls.{closingCut, closedCarry, closeOf, closeList}
-use Rattle.carry.proofs.Rows.{refused-by, admitted-by}
+use Rattle.pass_carry.proofs.Rows.{refused-by, admitted-by}
 
 pub closing-open : (c : Carry) → 0 < c .since → closingCut c ≡ c .taken ∷ []
 unfolding closingCut

@@ -13,8 +13,8 @@ use Rattle.terms.proofs.Ranges.{Ranges}
 use Rattle.rule.proofs.Hops.{hop-long}
 use Rattle.signature.specs.Signatures.{signatureOf}
 use Rattle.cutting.specs.Marks.{mark}
-use Rattle.carry.specs.declared.Carry.{Carry}
-use Rattle.carry.specs.Carries.{allZero, inOrder}
+use Rattle.pass_carry.specs.declared.Carry.{Carry}
+use Rattle.pass_carry.specs.Carries.{allZero, inOrder}
 use Rattle.pass.proofs.Prefix.{CarryOf, continues-there}
 
 -- of k zeros before a log, those past the first t are zero

@@ -15,11 +15,11 @@ use Rattle.signature.specs.Polynomials.{foldDigits, rem}
 use Rattle.signature.specs.Signatures.{number, signature, signatureOf}
 use Rattle.cutting.specs.Marks.{mark, matches}
 use Rattle.cutting.proofs.Marked.{mark-within}
-use Rattle.carry.specs.declared.Carry.{Carry}
-use Rattle.carry.specs.Carries.{freshCarry, blockTaken, cutsIn}
-use Rattle.carry.proofs.Sees.{Sees, sees-first}
-use Rattle.carry.proofs.Bytes.{Continues, Hopped, block-hops}
-use Rattle.carry.proofs.Parts.{length-slid-by, Parts, parts}
+use Rattle.pass_carry.specs.declared.Carry.{Carry}
+use Rattle.pass_carry.specs.Carries.{freshCarry, blockTaken, cutsIn}
+use Rattle.pass_carry.proofs.Sees.{Sees, sees-first}
+use Rattle.pass_carry.proofs.Bytes.{Continues, Hopped, block-hops}
+use Rattle.pass_carry.proofs.Parts.{length-slid-by, Parts, parts}
 
 -- the log with the zeros that a window shows before its start
 abbrev pub padded : List ℕ → List ℕ

@@ -15,12 +15,12 @@ use Rattle.rule.specs.Rule.{closing}
 use Rattle.rule.proofs.Hops.{UpTo, cuts-by-hops, still-open, already}
 use Rattle.cutting.specs.Marks.{mark, cutList}
 use Rattle.cutting.proofs.Written.{written-first}
-use Rattle.carry.specs.declared.Carry.{Carry}
-use Rattle.carry.specs.declared.order.Verdict.the-variants.{Fine, Wrong}
-use Rattle.carry.specs.Carries.{freshCarry, blockTaken, cutsIn}
-use Rattle.carry.specs.Outcomes.{wrote, carryRows}
-use Rattle.carry.proofs.Room.{enough-room}
-use Rattle.carry.proofs.Rows.{judged-fine}
+use Rattle.pass_carry.specs.declared.Carry.{Carry}
+use Rattle.pass_carry.specs.declared.order.Verdict.the-variants.{Fine, Wrong}
+use Rattle.pass_carry.specs.Carries.{freshCarry, blockTaken, cutsIn}
+use Rattle.pass_carry.specs.Outcomes.{wrote, carryRows}
+use Rattle.pass_carry.proofs.Room.{enough-room}
+use Rattle.pass_carry.proofs.Rows.{judged-fine}
 use Rattle.pass.specs.Calls.{freshOf, blockOf, blockList, closingCut, closeOf, closeList}
 use Rattle.pass.specs.SinglePass.{Lent, joined, Roomy, none, more, writtenFrom, writtenBy}
 use Rattle.pass.proofs.Blocks.{block-fine, never-full}

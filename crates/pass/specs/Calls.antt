@@ -10,11 +10,11 @@ use Rattle.terms.specs.declared.Refusal.the-variants.{SettingsOutOfRange, LogTo
 use Rattle.terms.specs.Settings.{inRange}
 use Rattle.terms.specs.Answers.{longest, roomFor, unless}
 use Rattle.cutting.specs.WholeLog.{writtenList}
-use Rattle.carry.specs.declared.Carry.{Carry}
-use Rattle.carry.specs.declared.Outcome.{Outcome}
-use Rattle.carry.specs.Carries.{freshCarry, cutsIn}
-use Rattle.carry.specs.Outcomes.{refused, wrote, carryRows}
-use Rattle.taking.specs.Taking.{takenOf}
+use Rattle.pass_carry.specs.declared.Carry.{Carry}
+use Rattle.pass_carry.specs.declared.Outcome.{Outcome}
+use Rattle.pass_carry.specs.Carries.{freshCarry, cutsIn}
+use Rattle.pass_carry.specs.Outcomes.{refused, wrote, carryRows}
+use Rattle.pass_block.specs.Taking.{takenOf}
 
 -- a carry with every part 0
 abbrev pub noCarry : Carry

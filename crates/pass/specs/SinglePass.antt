@@ -4,7 +4,7 @@ use mathlib.Core.List.{List, [], _∷_, _++_}
 use lib.ListN.{length, take}
 use Rattle.terms.specs.declared.Settings.{Settings}
 use Rattle.terms.specs.Answers.{answerCount, roomFor}
-use Rattle.carry.specs.declared.Carry.{Carry}
+use Rattle.pass_carry.specs.declared.Carry.{Carry}
 use Rattle.pass.specs.Calls.{freshOf, blockOf, blockList, closeOf, closeList}
 
 -- a block, and the list that is lent with it

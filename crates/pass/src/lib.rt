@@ -1,11 +1,11 @@
 // The single pass: a log cut as it arrives, block by block, with what is carried from one block to the next.
 ghost use mathlib.Core.Path.{_≡_};
 ghost use lib.ListN.{length};
-ghost use Rattle.carry.specs.Carries.{freshCarry};
+ghost use Rattle.pass_carry.specs.Carries.{freshCarry};
 ghost use Rattle.pass.specs.Calls.{closedCarry, freshOf, blockOf, blockList, closeOf, closeList};
-use carry::Carry;
-use carry::Outcome;
-use carry::order::Verdict;
+use pass_carry::Carry;
+use pass_carry::Outcome;
+use pass_carry::order::Verdict;
 use terms::Answer;
 use terms::Refusal;
 use terms::Settings;
@@ -51,18 +51,18 @@ pub fn block(carry: Carry, bytes: &[u8], list: &mut [u64]) -> Outcome
     ensures { λ r. ⌜ r ≡ blockOf carry (now (bytes .entry)) (length (now (list .entry))) ⌝ }
     ensures { λ _. ⌜ now (list .exit) ≡ blockList carry (now (bytes .entry)) (now (list .entry)) ⌝ }
 {
-    let verdict = carry::order::judge(carry);
+    let verdict = pass_carry::order::judge(carry);
     if let Verdict::Wrong(why) = verdict {
-        return carry::refuse(carry, why);
+        return pass_carry::refuse(carry, why);
     }
     let count = bytes.len() as u64;
     if carry.taken + count > terms::LONGEST {
-        return carry::refuse(carry, Refusal::LogTooLong);
+        return pass_carry::refuse(carry, Refusal::LogTooLong);
     }
     let minimum = carry.settings.minimum;
     let places = list.len() as u64;
     if places < count / minimum + 1 {
-        return carry::refuse(carry, Refusal::RoomTooShort);
+        return pass_carry::refuse(carry, Refusal::RoomTooShort);
     }
     if count == 0 {
         return Outcome {
@@ -70,7 +70,7 @@ pub fn block(carry: Carry, bytes: &[u8], list: &mut [u64]) -> Outcome
             carry: carry,
         };
     }
-    taking::take_block(carry, bytes, list)
+    pass_block::take_block(carry, bytes, list)
 }
 
 // The carry closed, its other parts kept.
@@ -94,12 +94,12 @@ pub fn close(carry: Carry, list: &mut [u64]) -> Outcome
     ensures { λ r. ⌜ r ≡ closeOf carry (length (now (list .entry))) ⌝ }
     ensures { λ _. ⌜ now (list .exit) ≡ closeList carry (now (list .entry)) ⌝ }
 {
-    let verdict = carry::order::judge(carry);
+    let verdict = pass_carry::order::judge(carry);
     if let Verdict::Wrong(why) = verdict {
-        return carry::refuse(carry, why);
+        return pass_carry::refuse(carry, why);
     }
     if list.len() < 1 {
-        return carry::refuse(carry, Refusal::RoomTooShort);
+        return pass_carry::refuse(carry, Refusal::RoomTooShort);
     }
     if carry.since > 0 {
         list[0] = carry.taken;

@@ -17,16 +17,16 @@ use Rattle.terms.specs.Settings.{inRange}
 use Rattle.terms.specs.Answers.{answerNumber, unless, longest, roomFor}
 use Rattle.cutting.specs.WholeLog.{writtenAnswer}
 use Rattle.laws.proofs.Cases.{by-test}
-use Rattle.merged.proofs.Orders as orders
-use Rattle.bays.proofs.Verdicts.{by-verdict}
-use Rattle.bays.specs.declared.Verdict.{Verdict}
-use Rattle.bays.specs.declared.Verdict.the-variants.{Granted, Denied}
-use Rattle.bays.specs.Segments.{segments, boardFits, bayFits, segmentFits}
-use Rattle.bays.specs.Bays.{Record, entries, bayOf, isDone, isSound}
-use Rattle.bays.specs.Judging.{judged, ifGranted, bayJudged, baysJudged}
+use Rattle.board_merged.proofs.Orders as orders
+use Rattle.board_bays.proofs.Verdicts.{by-verdict}
+use Rattle.board_bays.specs.declared.Verdict.{Verdict}
+use Rattle.board_bays.specs.declared.Verdict.the-variants.{Granted, Denied}
+use Rattle.board_bays.specs.Segments.{segments, boardFits, bayFits, segmentFits}
+use Rattle.board_bays.specs.Bays.{Record, entries, bayOf, isDone, isSound}
+use Rattle.board_bays.specs.Judging.{judged, ifGranted, bayJudged, baysJudged}
 use Rattle.board.specs.Merging.{mergeJudged, mergeAnswer, mergeList}
-use Rattle.walk.specs.Walk.{boardWalk}
-use Rattle.recording.specs.Records.{segmentOf}
+use Rattle.board_walk.specs.Walk.{boardWalk}
+use Rattle.board_record.specs.Records.{segmentOf}
 use Rattle.board.specs.Recording.{recordFits, recordAnswer, recorded, bayAnswer, bayAfter, segmentAnswer, segmentBoard}
 use Rattle.promises.specs.Rows.{Row, row, whether, firstRow, segmentRows, bayRows, mergeRows}
 use Rattle.promises.specs.Leaves.{Leaves, BayLeaves, BoardLeaves}

@@ -15,10 +15,10 @@ use Rattle.cutting.specs.Marks.{matches, mark, cutList}
 use Rattle.laws.specs.Over.{over}
 use Rattle.terms.specs.Settings.{inRange}
 use Rattle.terms.specs.Answers.{answerNumber}
-use Rattle.bays.specs.Segments.{sizeInRange, segments, segmentStart, segmentEnd, shapeFits, boardFits, segmentFits}
-use Rattle.bays.specs.Bays.{entries, bayOf}
-use Rattle.recording.specs.Records.{marksAmong, marksIn, isMarker, prepend, recordAfter, slowRecord, segmentRecord}
-use Rattle.bays.specs.Judging.{judged}
+use Rattle.board_bays.specs.Segments.{sizeInRange, segments, segmentStart, segmentEnd, shapeFits, boardFits, segmentFits}
+use Rattle.board_bays.specs.Bays.{entries, bayOf}
+use Rattle.board_record.specs.Records.{marksAmong, marksIn, isMarker, prepend, recordAfter, slowRecord, segmentRecord}
+use Rattle.board_bays.specs.Judging.{judged}
 use Rattle.board.specs.Recording.{recordFits, recordAnswer, recorded, withBay, segmentAnswer, segmentBoard}
 use Rattle.promises.specs.Figures.{Figure, power, cuts, segment, Holds, starred, Each, none, and-each, logA, logC}
 

@@ -18,11 +18,11 @@ use Rattle.terms.specs.declared.Refusal.the-variants.{SettingsOutOfRange, LogTo
 use Rattle.lists.specs.WellFormed.{wellFormed, lengthOf}
 use Rattle.cutting.specs.Marks.{cutList}
 use Rattle.cutting.specs.WholeLog.{cutLogAnswer, cutLogList, writtenAnswer}
-use Rattle.carry.specs.declared.Carry.{Carry}
-use Rattle.carry.specs.declared.Outcome.{Outcome}
-use Rattle.carry.specs.Carries.{inOrder, cutsIn}
-use Rattle.carry.specs.Outcomes.{refused, carryRows}
-use Rattle.taking.specs.Taking.{takenOf}
+use Rattle.pass_carry.specs.declared.Carry.{Carry}
+use Rattle.pass_carry.specs.declared.Outcome.{Outcome}
+use Rattle.pass_carry.specs.Carries.{inOrder, cutsIn}
+use Rattle.pass_carry.specs.Outcomes.{refused, carryRows}
+use Rattle.pass_block.specs.Taking.{takenOf}
 use Rattle.pass.specs.Calls.{noCarry, freshOf, blockOf, blockList, closeOf, closeList, closingCut}
 use Rattle.promises.specs.Leaves.{Leaves, HandsBack}
 use Rattle.promises.proofs.Unless.{passNumber, row-leaves, guard-leaves}

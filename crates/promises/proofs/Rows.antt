@@ -12,9 +12,9 @@ use Rattle.terms.specs.Answers.{answerNumber, longest, roomFor}
 use Rattle.cutting.specs.Marks.{cutList}
 use Rattle.cutting.specs.WholeLog.{cutLogAnswer, writtenAnswer}
 use Rattle.lists.specs.WellFormed.{wellFormed, lengthOf}
-use Rattle.carry.specs.declared.Carry.{Carry}
-use Rattle.carry.specs.Carries.{inOrder, cutsIn}
-use Rattle.taking.specs.Taking.{takenOf}
+use Rattle.pass_carry.specs.declared.Carry.{Carry}
+use Rattle.pass_carry.specs.Carries.{inOrder, cutsIn}
+use Rattle.pass_block.specs.Taking.{takenOf}
 use Rattle.pass.specs.Calls.{freshOf, blockOf, closeOf}
 use Rattle.amending.specs.declared.edits.Edit.{Edit}
 use Rattle.amending.specs.Parts.{amendedList}

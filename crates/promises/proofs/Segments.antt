@@ -13,20 +13,20 @@ use Rattle.terms.specs.Settings.{inRange}
 use Rattle.terms.proofs.Ranges.{ranges}
 use Rattle.cutting.specs.Marks.{mark, cutList}
 use Rattle.cutting.specs.WholeLog.{writtenAnswer}
-use Rattle.bays.specs.declared.Verdict.{Verdict}
-use Rattle.bays.specs.declared.Verdict.the-variants.{Granted, Denied}
-use Rattle.bays.specs.Segments.{segments, boardFits, segmentFits}
-use Rattle.bays.specs.Bays.{bayOf, Holds}
-use Rattle.bays.specs.Judging.{judged, ifGranted, baysJudged}
+use Rattle.board_bays.specs.declared.Verdict.{Verdict}
+use Rattle.board_bays.specs.declared.Verdict.the-variants.{Granted, Denied}
+use Rattle.board_bays.specs.Segments.{segments, boardFits, segmentFits}
+use Rattle.board_bays.specs.Bays.{bayOf, Holds}
+use Rattle.board_bays.specs.Judging.{judged, ifGranted, baysJudged}
 use Rattle.board.specs.Merging.{mergeJudged, mergeAnswer, mergeList}
-use Rattle.walk.specs.Walk.{boardWalk}
-use Rattle.recording.specs.Records.{segmentOf}
+use Rattle.board_walk.specs.Walk.{boardWalk}
+use Rattle.board_record.specs.Records.{segmentOf}
 use Rattle.board.specs.Recording.{recordFits, recordAnswer, recordAll, segmentAnswer}
-use Rattle.bays.proofs.Verdicts.{granted}
-use Rattle.bays.proofs.Ranges.{board-shape}
-use Rattle.merged.proofs.Merged as merging
-use Rattle.merged.proofs.Accepted as accepted
-use Rattle.merged.proofs.Orders as orders
+use Rattle.board_bays.proofs.Verdicts.{granted}
+use Rattle.board_bays.proofs.Ranges.{board-shape}
+use Rattle.board_merged.proofs.Merged as merging
+use Rattle.board_merged.proofs.Accepted as accepted
+use Rattle.board_merged.proofs.Orders as orders
 use Rattle.promises.specs.OneList.{Lists}
 use Rattle.terms.proofs.Rows.{past-row}
 use Rattle.promises.proofs.Unless.{wrote-all}

@@ -14,7 +14,7 @@ use Rattle.terms.specs.declared.Answer.the-variants.{Wrote}
 use Rattle.terms.specs.declared.Refusal.the-variants.{ListFull}
 use Rattle.terms.specs.Answers.{answerNumber, unless}
 use Rattle.terms.proofs.Rows.{past-row}
-use Rattle.carry.specs.declared.Outcome.{Outcome}
+use Rattle.pass_carry.specs.declared.Outcome.{Outcome}
 use Rattle.cutting.specs.WholeLog.{writtenAnswer, writtenList}
 use Rattle.promises.specs.Rows.{whether}
 use Rattle.promises.specs.Leaves.{Leaves}

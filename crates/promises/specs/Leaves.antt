@@ -5,9 +5,9 @@ use mathlib.Core.List.{List, _∷_}
 use lib.ListN.{length, take}
 use Rattle.laws.specs.Over.{over}
 use Rattle.terms.specs.Answers.{answerNumber}
-use Rattle.bays.specs.Bays.{bayOf}
-use Rattle.carry.specs.declared.Carry.{Carry}
-use Rattle.carry.specs.declared.Outcome.{Outcome}
+use Rattle.board_bays.specs.Bays.{bayOf}
+use Rattle.pass_carry.specs.declared.Carry.{Carry}
+use Rattle.pass_carry.specs.declared.Outcome.{Outcome}
 
 -- lent memory before and after a call that answered a number, and the cuts that it would write
 pub record Leaves (number : ℕ) (before after cuts : List ℕ) : Type 0 where

@@ -11,13 +11,13 @@ use Rattle.terms.specs.Settings.{inRange}
 use Rattle.terms.specs.Answers.{longest, roomFor}
 use Rattle.lists.specs.WellFormed.{wellFormed, lengthOf}
 use Rattle.cutting.specs.Marks.{cutList}
-use Rattle.carry.specs.declared.Carry.{Carry}
-use Rattle.carry.specs.Carries.{inOrder, cutsIn}
-use Rattle.bays.specs.Segments.{segments, boardFits, segmentFits}
-use Rattle.bays.specs.Bays.{bayOf, isDone, isSound}
-use Rattle.recording.specs.Records.{segmentOf}
+use Rattle.pass_carry.specs.declared.Carry.{Carry}
+use Rattle.pass_carry.specs.Carries.{inOrder, cutsIn}
+use Rattle.board_bays.specs.Segments.{segments, boardFits, segmentFits}
+use Rattle.board_bays.specs.Bays.{bayOf, isDone, isSound}
+use Rattle.board_record.specs.Records.{segmentOf}
 use Rattle.board.specs.Recording.{recordFits}
-use Rattle.walk.specs.Walk.{boardWalk}
+use Rattle.board_walk.specs.Walk.{boardWalk}
 use Rattle.amending.specs.declared.edits.Edit.{Edit}
 use Rattle.amending.specs.Parts.{amendedList}
 use Rattle.amending.specs.Answers.{newCutsOf, editFits}

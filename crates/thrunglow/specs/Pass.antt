@@ -1,6 +1,6 @@
 -- The single pass as the exported calls answer it.
 use Rattle.terms.specs.Answers.{answerNumber, answerCount}
-use Rattle.carry.specs.declared.Outcome.{Outcome}
+use Rattle.pass_carry.specs.declared.Outcome.{Outcome}
 use Rattle.thrunglow.specs.declared.passes.Passed.{Passed}
 
 abbrev pub passedOf : Outcome → Passed

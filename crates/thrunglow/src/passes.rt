@@ -4,8 +4,8 @@ ghost use lib.ListN.{length};
 ghost use Rattle.pass.specs.Calls.{freshOf, blockOf, blockList, closeOf, closeList};
 ghost use Rattle.thrunglow.specs.Pass.{passedOf};
 use super::answers::numbered;
-use carry::Carry;
-use carry::Outcome;
+use pass_carry::Carry;
+use pass_carry::Outcome;
 use terms::Settings;
 
 // A number, the entries written, and the carry handed back.

@@ -5,8 +5,8 @@ use mathlib.Core.Path.{_≡_, _∙_}
 use native.Mathlib.Nat.{div-le-self}
 use native.Mathlib.Omega.{arith}
 use lib.ListN.{length}
-use Rattle.carry.proofs.Rows.{fine-parts}
-use Rattle.carry.proofs.Usable.{Usable, usable}
+use Rattle.pass_carry.proofs.Rows.{fine-parts}
+use Rattle.pass_carry.proofs.Usable.{Usable, usable}
 use Rattle.pass.proofs.Blocks.{block-wrong, block-long, block-roomless, block-fine, block-empty}
 use Rattle.pass.proofs.block.Statement.{statement}
 use Rattle.pass.proofs.block.Tie as tie

@@ -2,7 +2,7 @@
 use borrow.Author.Needs.{needs}
 use denote.Ref.{now}
 use mathlib.Core.Path.{ap, _∙_}
-use Rattle.carry.specs.Outcomes.{wrote}
+use Rattle.pass_carry.specs.Outcomes.{wrote}
 use Rattle.pass.proofs.Closing.{close-wrong, close-short, close-writes, close-leaves}
 use Rattle.pass.proofs.close.Statement.{statement}
 use Rattle.pass.proofs.close.Tie as tie

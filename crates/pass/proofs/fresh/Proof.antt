@@ -2,7 +2,7 @@
 use borrow.Author.Needs.{needs}
 use mathlib.Core.Path.{ap}
 use Rattle.laws.proofs.Cases.{test-passed, test-failed}
-use Rattle.carry.specs.Outcomes.{refused, wrote}
+use Rattle.pass_carry.specs.Outcomes.{refused, wrote}
 use Rattle.pass.specs.Calls.{freshOf}
 use Rattle.terms.specs.declared.Refusal.the-variants.{SettingsOutOfRange}
 use Rattle.pass.proofs.fresh.Statement.{statement}

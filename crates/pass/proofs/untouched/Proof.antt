@@ -1,6 +1,6 @@
 -- `pass::untouched` meets its contract: it writes out the definition.
 use mathlib.Core.Path.{refl}
-use Rattle.carry.specs.Carries.{freshCarry}
+use Rattle.pass_carry.specs.Carries.{freshCarry}
 use Rattle.pass.proofs.untouched.Statement.{statement}
 use Rattle.pass.proofs.untouched.Tie as tie
 

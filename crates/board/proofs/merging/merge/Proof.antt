@@ -4,7 +4,7 @@ use native.Mathlib.Nat.{div-le-self}
 use native.Mathlib.Omega.{arith}
 use mathlib.Core.Path.{sym, _∙_}
 use Rattle.terms.proofs.Ranges.{ranges}
-use Rattle.bays.proofs.Verdicts.{passed}
+use Rattle.board_bays.proofs.Verdicts.{passed}
 use Rattle.board.proofs.Merges.{denied, no-room, bad-bay, list-full, all-written}
 use Rattle.board.proofs.merging.merge.Statement.{statement}
 use Rattle.board.proofs.merging.merge.Tie as tie

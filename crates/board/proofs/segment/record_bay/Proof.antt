@@ -1,7 +1,7 @@
 -- `board::segment::record_bay` meets its contract: rows 1, 2 and 7, then the bay.
 use borrow.Author.Needs.{needs}
 use Rattle.terms.specs.declared.Answer.the-variants.{Refused}
-use Rattle.bays.proofs.Verdicts.{refused-at, goes-on, passed}
+use Rattle.board_bays.proofs.Verdicts.{refused-at, goes-on, passed}
 use Rattle.board.specs.Recording.{bayAnswer, bayAfter}
 use Rattle.board.proofs.Fills.{bay-there}
 use Rattle.board.proofs.segment.record_bay.Statement.{statement}

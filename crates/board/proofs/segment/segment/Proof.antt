@@ -3,7 +3,7 @@ use borrow.Author.Needs.{needs}
 use native.Mathlib.Omega.{arith}
 use mathlib.Core.Path.{_∙_}
 use Rattle.terms.specs.declared.Answer.the-variants.{Refused}
-use Rattle.bays.proofs.Verdicts.{refused-at, goes-on, passed}
+use Rattle.board_bays.proofs.Verdicts.{refused-at, goes-on, passed}
 use Rattle.board.specs.Recording.{segmentAnswer, segmentBoard}
 use Rattle.board.proofs.Fills.{segment-there, lent-wide, lent-answer, put-back}
 use Rattle.board.proofs.segment.segment.Statement.{statement}

@@ -1,6 +1,6 @@
 -- `thrunglow::passes::handed` meets its contract: the answer's number and count, with the carry.
 use mathlib.Core.Path.{ap}
-use Rattle.carry.specs.declared.Carry.{Carry}
+use Rattle.pass_carry.specs.declared.Carry.{Carry}
 use Rattle.thrunglow.specs.declared.answers.Outcome.{Outcome}
 use Rattle.thrunglow.specs.declared.passes.Passed.{Passed}
 use borrow.Author.Needs.{needs}

@@ -1,0 +1,63 @@
+-- Judging a whole bay, and the bays one by one.
+use mathlib.Core.Path.{_≡_, sym, ap, _∙_}
+use mathlib.Core.Bool.{true, false, _&&_}
+use mathlib.Core.List.{List}
+use Prim.Native.Nat.{ℕ, suc, _+_, _-_, _*_, _≤_, _<_, min}
+use native.Mathlib.Omega.{arith}
+use native.Mathlib.Numerals.{add-one}
+use lib.ListN.{length, getD}
+use borrow.Author.Tests.{le-leb, lt-leb, lt-ltb, le-ltb, ltb-true}
+use Rattle.terms.specs.declared.Settings.{Settings}
+use Rattle.terms.specs.declared.Refusal.{Refusal}
+use Rattle.board_bays.specs.declared.Verdict.{Verdict}
+use Rattle.board_bays.specs.declared.Verdict.the-variants.{Granted, Denied}
+use Rattle.board_bays.specs.Judging.{bayJudged, baysJudged, ifGranted}
+use Rattle.board_bays.specs.Segments.{segmentStart, segmentEnd}
+use Rattle.board_bays.specs.Bays.{bayOf, isDone, offsetCount, recordIn, isSound, risesWithin, markerFits}
+
+module _ (minimum maximum size n i : ℕ) (bay : List ℕ) where
+  pub too-many : length bay - 2 < getD bay 0 0 - 1 → false ≡ isSound minimum maximum size n i bay
+  unfolding isSound offsetCount
+  too-many h = rw (lt-leb _ _ h)
+
+  -- the segment's end and the offsets as the code has them
+  pub sound-is : getD bay 0 0 - 1 ≤ length bay - 2 → (e : ℕ) → e ≡ min (i * size + size) n → (offsets : List ℕ) → offsets ≡ recordIn bay .offsets
+      → isSound minimum maximum size n i bay ≡ risesWithin (i * size) e offsets && markerFits minimum maximum i (record { marker = getD bay 1 0; offsets = offsets })
+  unfolding isSound offsetCount recordIn segmentStart segmentEnd
+  sound-is few e ends offsets are = rw (le-leb _ _ few, ends, are)
+
+-- entry 0
+pub some-entry : (bay : List ℕ) → isDone bay ≡ true → 1 ≤ getD bay 0 0
+unfolding isDone
+some-entry bay t = ltb-true 0 (getD bay 0 0) t
+
+pub is-done : (bay : List ℕ) → (getD bay 0 0 ≡ 0 → ⊥) → isDone bay ≡ true
+unfolding isDone
+is-done bay h = lt-ltb 0 (getD bay 0 0) (omega (arith, h))
+
+pub not-done : (bay : List ℕ) → getD bay 0 0 ≡ 0 → isDone bay ≡ false
+unfolding isDone
+not-done bay h = le-ltb 0 (getD bay 0 0) (omega arith)
+
+-- the bays from bay i on, of so many, as the code judges them
+module _ (s : Settings) (size width n : ℕ) (board : List ℕ) (count i : ℕ) where
+  module _ (h : i < count) (bay : List ℕ) (is-bay : bay ≡ bayOf width board i) (v : Verdict) (told : v ≡ bayJudged s size n i bay) where
+    opened : baysJudged s size width n board (count - i) i ≡ ifGranted v Denied (baysJudged s size width n board (count - (i + 1)) (i + 1))
+    unfolding baysJudged
+    opened =
+        let left : count - i ≡ suc (count - (i + 1)) = omega arith in
+        rw (left, told, is-bay, add-one)
+
+    pub judged-on : v ≡ Granted → baysJudged s size width n board (count - i) i ≡ baysJudged s size width n board (count - (i + 1)) (i + 1)
+    judged-on e = opened ∙ rw e
+
+    pub judged-denied : (why : Refusal) → v ≡ Denied why → baysJudged s size width n board (count - i) i ≡ Denied why
+    judged-denied why e = opened ∙ rw e
+
+  pub judged-all : count ≤ i → baysJudged s size width n board (count - i) i ≡ Granted
+  unfolding baysJudged
+  judged-all h = let none : count - i ≡ 0 = omega arith in rw none
+
+pub judged-whole : (s : Settings) (size width n : ℕ) (board : List ℕ) {count k : ℕ} {v : Verdict} → count ≡ k
+    → baysJudged s size width n board count 0 ≡ v → v ≡ baysJudged s size width n board k 0
+judged-whole s size width n board e h = sym h ∙ ap (λ (j : ℕ). baysJudged s size width n board j 0) e

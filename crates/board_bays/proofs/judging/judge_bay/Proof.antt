@@ -1,0 +1,29 @@
+-- `bays::judging::judge_bay` meets its contract: 8 before 9.
+use native.Mathlib.Omega.{arith}
+use Rattle.laws.proofs.Cases.{test-passed, test-failed}
+use Rattle.board_bays.specs.Judging.{bayJudged}
+use Rattle.board_bays.proofs.Sound.{is-done, not-done}
+use Rattle.board_bays.proofs.judging.judge_bay.Statement.{statement}
+use Rattle.board_bays.proofs.judging.judge_bay.Tie as tie
+
+shared-slice-read-if1 : tie.Need-shared-slice-read-if1
+shared-slice-read-if1 c = omega (arith, c .before .before .pre .1)
+
+returns : tie.Need-returns
+unfolding bayJudged
+returns c = rw (not-done _ (c .if1 .taken))
+
+is-sound-requires : tie.Need-is-sound-requires
+is-sound-requires c κs = (c .before .before .before .pre .0, (c .before .before .before .pre .1, is-done _ (c .if1 .left)))
+
+returns-2 : tie.Need-returns-2
+unfolding bayJudged
+returns-2 c = rw (is-done _ (c .before .before .if1 .left), test-failed (c .before .is-sound .ensures) (c .if2 .taken))
+
+returns-3 : tie.Need-returns-3
+unfolding bayJudged
+returns-3 c = rw (is-done _ (c .before .before .if1 .left), test-passed (c .before .is-sound .ensures) (c .if2 .left))
+
+pub judge-bay-spec : {M : Type 1} → statement M
+judge-bay-spec =
+    tie.close (tie.spec shared-slice-read-if1 returns is-sound-requires returns-2 returns-3)

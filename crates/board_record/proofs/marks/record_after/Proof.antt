@@ -1,0 +1,66 @@
+-- `recording::marks::record_after` meets its contract. The invariant: the marks up to the spot are recorded, and the record goes on from it.
+use borrow.Author.Needs.{needs}
+use Prim.Native.Nat.{_-_}
+use mathlib.Core.Path.{sym, _∙_}
+use native.Mathlib.Omega.{arith}
+use borrow.Author.Tests.{not-true, not-false}
+use lib.ListN.{length}
+use Rattle.terms.proofs.Ranges.{ranges}
+use Rattle.board_record.proofs.Slow.{Slowly, slow-start, slow-none, slow-on, slow-marker, slow-end, records-long}
+use Rattle.lists.proofs.Putting.{same-long}
+use Rattle.board_record.proofs.marks.record_after.Statement.{statement}
+use Rattle.board_record.proofs.marks.record_after.Tie as tie
+
+abbrev Inv-loop : tie.InvT-loop
+Inv-loop settings stretch base list₀ leaving pushed minimum maximum spot₀ count₀ list spot count = Slowly settings stretch base spot₀ list₀ list spot count
+
+abbrev μ-loop : tie.MeasureT-loop
+μ-loop settings stretch base list₀ leaving pushed minimum maximum spot₀ count₀ list spot count = length stretch - spot .at
+
+loop-holds : tie.Need-loop-holds Inv-loop μ-loop
+loop-holds c = slow-start _ _ _ (c .before .before .args .first) _ (c .before .before .pre .1 .0 .0) (c .before .before .pre .1 .0 .1) (c .before .before .pre .1 .0 .2)
+
+next-mark-requires : tie.Need-next-mark-requires Inv-loop μ-loop
+next-mark-requires c κs = (c .before .before .before .before .before .pre .0, ((c .before .before .loop .inv .low, c .if1 .taken, c .before .before .loop .inv .here), c .before .before .before .before .before .pre .1 .1))
+
+same-length : tie.Need-same-length Inv-loop μ-loop
+same-length c = same-long (c .before .before .before .before .before .loop .inv .way)
+
+returns : tie.Need-returns Inv-loop μ-loop
+returns c = slow-none (c .before .before .before .before .before .loop .inv) _ (c .before .before .before .if1 .taken) (c .before .before .next-mark .ensures) (not-true _ (c .if2 .taken))
+
+add-count : tie.Need-add-count Inv-loop μ-loop
+add-count c = omega (arith, c .before .before .before .before .before .before .before .before .before .loop .inv .way .behind, c .before .before .before .before .before .before .before .before .before .loop .inv .inside, c .before .before .before .before .before .before .before .before .before .before .before .before .pre .1 .0 .3)
+
+add-is-marker : tie.Need-add-is-marker Inv-loop μ-loop
+add-is-marker c = omega (arith, c .before .before .before .before .before .before .before .before .before .loop .inv .inside, c .before .before .before .before .before .before .before .before .before .before .before .before .pre .1 .0 .3)
+
+is-marker-requires : tie.Need-is-marker-requires Inv-loop μ-loop
+is-marker-requires c κs = (ranges _ (c .before .before .before .before .before .before .before .before .before .before .before .before .pre .0) .ordered, omega (arith, c .before .before .before .before .before .before .next-mark .ensures .begun))
+
+record-cuts-requires : tie.Need-record-cuts-requires Inv-loop μ-loop
+record-cuts-requires c κs = (c .before .before .before .before .before .before .before .before .before .before .before .before .before .before .before .pre .0, ((omega (arith, c .before .before .before .before .before .before .before .before .before .before .before .before .loop .inv .way .behind, c .before .before .before .before .before .before .before .before .before .next-mark .ensures .begun), omega arith, omega (arith, c .before .before .before .before .before .before .before .before .before .next-mark .ensures .inside), c .before .before .before .before .before .before .before .before .before .before .before .before .before .before .before .pre .1 .0 .3), c .before .before .before .before .before .before .before .before .before .before .before .before .before .before .before .pre .1 .1))
+
+same-length-2 : tie.Need-same-length-2 Inv-loop μ-loop
+same-length-2 c = records-long (slow-marker (c .before .before .before .before .before .before .before .before .before .before .before .before .before .before .before .loop .inv) _ (c .before .before .before .before .before .before .before .before .before .before .before .before .before .if1 .taken) (c .before .before .before .before .before .before .before .before .before .before .before .before .next-mark .ensures) (not-false _ (c .before .before .before .before .before .before .before .before .before .before .if2 .left)) (sym (c .before .before .before .before .before .is-marker .ensures) ∙ c .before .before .before .before .if3 .taken) (c .before .before .before .before .before .before .before .before .put .ensures) (c .before .before .record-cuts .ensures))
+
+returns-2 : tie.Need-returns-2 Inv-loop μ-loop
+returns-2 c = slow-marker (c .before .before .before .before .before .before .before .before .before .before .before .before .before .before .before .loop .inv) _ (c .before .before .before .before .before .before .before .before .before .before .before .before .before .if1 .taken) (c .before .before .before .before .before .before .before .before .before .before .before .before .next-mark .ensures) (not-false _ (c .before .before .before .before .before .before .before .before .before .before .if2 .left)) (sym (c .before .before .before .before .before .is-marker .ensures) ∙ c .before .before .before .before .if3 .taken) (c .before .before .before .before .before .before .before .before .put .ensures) (c .before .before .record-cuts .ensures)
+
+loop-less : tie.Need-loop-less Inv-loop μ-loop
+loop-less c = omega (arith, c .before .before .before .before .before .before .before .before .next-mark .ensures .begun, c .before .before .before .before .before .before .before .before .before .if1 .taken)
+
+loop-again : tie.Need-loop-again Inv-loop μ-loop
+loop-again c = slow-on (c .before .before .before .before .before .before .before .before .before .before .before .loop .inv) _ (c .before .before .before .before .before .before .before .before .before .if1 .taken) (c .before .before .before .before .before .before .before .before .next-mark .ensures) (not-false _ (c .before .before .before .before .before .before .if2 .left)) (sym (c .before .is-marker .ensures) ∙ c .if3 .left) (c .before .before .before .before .put .ensures)
+
+same-length-3 : tie.Need-same-length-3 Inv-loop μ-loop
+same-length-3 c = same-long (c .before .before .loop .inv .way)
+
+returns-3 : tie.Need-returns-3 Inv-loop μ-loop
+returns-3 c = slow-end (c .before .before .loop .inv) (c .if1 .left)
+
+pub record-after-spec : {M : Type 1} → statement M
+record-after-spec =
+    tie.close
+    (tie.spec Inv-loop μ-loop loop-holds next-mark-requires same-length returns (λ c. search needs) (λ c κs. search needs) add-count
+    add-is-marker is-marker-requires record-cuts-requires same-length-2 returns-2 loop-less loop-again same-length-3 returns-3)

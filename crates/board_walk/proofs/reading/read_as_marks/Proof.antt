@@ -1,0 +1,67 @@
+-- `walk::reading::read_as_marks` meets its contract. The invariant: what is read before place k is made; what is left is read from the last cut on, and rises.
+use borrow.Author.Needs.{needs}
+use Prim.Native.Nat.{_+_, _≤_, _-_, _^_}
+use mathlib.Core.Path.{_≡_}
+use mathlib.Core.Bool.{true}
+use native.Mathlib.Omega.{arith}
+use lib.ListN.{length, drop}
+use Rattle.board_bays.specs.Bays.{risesWithin}
+use Rattle.board_walk.specs.Walk.{readAsMarks}
+use Rattle.board_walk.proofs.Rises.{next-rises}
+use Rattle.laws.proofs.Slices.{rest-from}
+use Rattle.board_walk.proofs.Walks.{marks-on, marks-switch, still-rises, marks-end}
+use Rattle.lists.proofs.Putting.{Underway, begin, same-long, rest-is, ended, all-made, puts-long}
+use Rattle.board_walk.proofs.reading.read_as_marks.Statement.{statement}
+use Rattle.board_walk.proofs.reading.read_as_marks.Tie as tie
+
+abbrev Inv-loop : tie.InvT-loop
+Inv-loop list₀ offsets marker minimum maximum so-far₀ k₀ list so-far k = (k ≤ length offsets) × ((risesWithin (so-far .cut) (2 ^ 40) (drop k offsets) ≡ true) × Underway (readAsMarks minimum maximum marker (so-far₀ .cut) offsets) (readAsMarks minimum maximum marker (so-far .cut) (drop k offsets)) so-far₀ list₀ (so-far .count) (so-far .cut) list)
+
+abbrev μ-loop : tie.MeasureT-loop
+μ-loop list₀ offsets marker minimum maximum so-far₀ k₀ list so-far k = length offsets - k
+
+loop-holds : tie.Need-loop-holds Inv-loop μ-loop
+loop-holds c = (omega arith, (c .before .before .pre .1, begin _ (c .before .before .args .made) _ (c .before .before .pre .0)))
+
+read-offset-requires : tie.Need-read-offset-requires Inv-loop μ-loop
+read-offset-requires c κs = (c .before .before .before .loop .inv .1 .1 .behind, next-rises _ _ _ _ (c .before .before .loop-test .taken) (c .before .before .before .loop .inv .1 .0) .0, c .before .before .before .before .before .before .pre .2)
+
+mul-take-offsets : tie.Need-mul-take-offsets Inv-loop μ-loop
+mul-take-offsets c = omega (arith, c .before .before .before .before .before .before .before .before .before .loop-test .taken, c .before .before .before .before .before .before .before .before .before .before .before .before .before .good)
+
+part-take-offsets-start : tie.Need-part-take-offsets-start Inv-loop μ-loop
+part-take-offsets-start c = omega (arith, c .before .before .before .before .before .before .before .before .before .loop-test .taken)
+
+take-offsets-requires : tie.Need-take-offsets-requires Inv-loop μ-loop
+take-offsets-requires c κs = (c .before .before .before .before .before .before .before .read-offset .ensures .behind, rw rest-from (still-rises _ _ _ _ _ (c .before .before .before .before .before .before .before .before .before .before .loop-test .taken) (c .before .before .before .before .before .before .before .before .before .before .before .before .before .before .pre .2) (c .before .before .before .before .before .before .before .read-offset .ensures) (c .before .before .before .before .before .before .before .before .before .before .before .loop .inv .1 .1) (c .before .before .before .before .before .before .before .before .before .before .before .loop .inv .1 .0)))
+
+same-length : tie.Need-same-length Inv-loop μ-loop
+same-length c = puts-long (all-made (marks-switch _ _ _ _ _ (c .before .before .before .before .before .before .before .before .before .before .before .before .before .loop-test .taken) (c .before .before .before .before .before .before .before .before .before .before .before .before .before .before .before .before .before .pre .2) (c .before .before .before .before .before .before .before .before .before .before .read-offset .ensures) (c .before .before .before .before .before .before .before .before .before .before .before .before .before .before .loop .inv .1 .1) (c .before .before .before .before .before .before .if1 .taken) (c .before .before .before .before .before .if2 .taken)) (rest-from (c .before .before .before .before .before .before .before .before .before .before .before .before .before .before .before .before .before .args .offsets .now) (c .before .before .before .before .before .before .before .before .before .before .before .before .before .before .loop .k + 1)) (c .before .before .take-offsets .ensures))
+
+returns : tie.Need-returns Inv-loop μ-loop
+returns c = all-made (marks-switch _ _ _ _ _ (c .before .before .before .before .before .before .before .before .before .before .before .before .before .loop-test .taken) (c .before .before .before .before .before .before .before .before .before .before .before .before .before .before .before .before .before .pre .2) (c .before .before .before .before .before .before .before .before .before .before .read-offset .ensures) (c .before .before .before .before .before .before .before .before .before .before .before .before .before .before .loop .inv .1 .1) (c .before .before .before .before .before .before .if1 .taken) (c .before .before .before .before .before .if2 .taken)) (rest-from (c .before .before .before .before .before .before .before .before .before .before .before .before .before .before .before .before .before .args .offsets .now) (c .before .before .before .before .before .before .before .before .before .before .before .before .before .before .loop .k + 1)) (c .before .before .take-offsets .ensures)
+
+loop-less : tie.Need-loop-less Inv-loop μ-loop
+loop-less c = omega (arith, c .before .before .before .before .before .before .before .before .loop-test .taken)
+
+loop-again : tie.Need-loop-again Inv-loop μ-loop
+loop-again c = (omega (arith, c .before .before .before .before .before .before .before .before .loop-test .taken), (still-rises _ _ _ _ _ (c .before .before .before .before .before .before .before .before .loop-test .taken) (c .before .before .before .before .before .before .before .before .before .before .before .before .pre .2) (c .before .before .before .before .before .read-offset .ensures) (c .before .before .before .before .before .before .before .before .before .loop .inv .1 .1) (c .before .before .before .before .before .before .before .before .before .loop .inv .1 .0), marks-on _ _ _ _ _ (c .before .before .before .before .before .before .before .before .loop-test .taken) (c .before .before .before .before .before .before .before .before .before .before .before .before .pre .2) (c .before .before .before .before .before .read-offset .ensures) (c .before .before .before .before .before .before .before .before .before .loop .inv .1 .1) (λ _ e. c .if2 .left e)))
+
+loop-less-2 : tie.Need-loop-less-2 Inv-loop μ-loop
+loop-less-2 c = omega (arith, c .before .before .before .before .before .before .before .loop-test .taken)
+
+loop-again-2 : tie.Need-loop-again-2 Inv-loop μ-loop
+loop-again-2 c = (omega (arith, c .before .before .before .before .before .before .before .loop-test .taken), (still-rises _ _ _ _ _ (c .before .before .before .before .before .before .before .loop-test .taken) (c .before .before .before .before .before .before .before .before .before .before .before .pre .2) (c .before .before .before .before .read-offset .ensures) (c .before .before .before .before .before .before .before .before .loop .inv .1 .1) (c .before .before .before .before .before .before .before .before .loop .inv .1 .0), marks-on _ _ _ _ _ (c .before .before .before .before .before .before .before .loop-test .taken) (c .before .before .before .before .before .before .before .before .before .before .before .pre .2) (c .before .before .before .before .read-offset .ensures) (c .before .before .before .before .before .before .before .before .loop .inv .1 .1) (λ e _. c .if1 .left e)))
+
+same-length-2 : tie.Need-same-length-2 Inv-loop μ-loop
+same-length-2 c = same-long (c .before .loop .inv .1 .1)
+
+returns-2 : tie.Need-returns-2 Inv-loop μ-loop
+returns-2 c = ended (rest-is _ (marks-end _ _ _ _ _ _ (c .loop-test .left)) (c .before .loop .inv .1 .1))
+
+pub read-as-marks-spec : {M : Type 1} → statement M
+read-as-marks-spec =
+    tie.close
+    (tie.spec Inv-loop μ-loop loop-holds (λ c. search needs) (λ c. search needs) read-offset-requires (λ c. search needs) mul-take-offsets
+    (λ c. search needs) part-take-offsets-start (λ c. search needs) take-offsets-requires same-length returns loop-less loop-again
+    loop-less-2 loop-again-2 same-length-2 returns-2)

@@ -1,0 +1,36 @@
+-- `walk::walk_bay` meets its contract: segment 0's offsets are cuts, any other's are read as marks.
+use borrow.Author.Needs.{needs}
+use mathlib.Core.Path.{sym, ap, _∙_}
+use Rattle.board_bays.specs.Bays.{recordIn}
+use Rattle.board_walk.specs.Walk.{readAsMarks}
+use Rattle.board_walk.proofs.BayWalks.{first-bay, later-bay}
+use Rattle.lists.proofs.Putting.{puts-are, puts-long}
+use Rattle.board_walk.proofs.walk_bay.Statement.{statement}
+use Rattle.board_walk.proofs.walk_bay.Tie as tie
+
+take-offsets-requires : tie.Need-take-offsets-requires
+take-offsets-requires c κs = (c .before .before .before .before .before .pre .0 .0, rw (c .before .before .offsets-in .ensures) (c .before .before .before .before .before .pre .1 .1))
+
+same-length : tie.Need-same-length
+same-length c = puts-long (c .before .before .take-offsets .ensures)
+
+returns : tie.Need-returns
+returns c = puts-are (c .before .before .before .before .before .offsets-in .ensures ∙ sym (first-bay _ _ _ _ _ (c .before .before .before .before .if1 .taken))) (c .before .before .take-offsets .ensures)
+
+read-as-marks-requires : tie.Need-read-as-marks-requires
+read-as-marks-requires c κs = (c .before .before .before .before .before .before .pre .0 .0, rw (c .before .before .before .offsets-in .ensures) (c .before .before .before .before .before .before .pre .1 .1), c .before .before .before .before .before .before .pre .0 .1)
+
+same-length-2 : tie.Need-same-length-2
+same-length-2 c = puts-long (c .before .before .read-as-marks .ensures)
+
+returns-2 : tie.Need-returns-2
+unfolding recordIn
+returns-2 c =
+    puts-are (ap (readAsMarks _ _ _ _) (c .before .before .before .before .before .before .offsets-in .ensures) ∙ sym (later-bay _ _ _ _ _ (c .before .before .before .before .before .if1 .left)))
+    (c .before .before .read-as-marks .ensures)
+
+pub walk-bay-spec : {M : Type 1} → statement M
+walk-bay-spec =
+    tie.close
+    (tie.spec (λ c κs. search needs) take-offsets-requires same-length returns (λ c. search needs) read-as-marks-requires same-length-2
+    returns-2)

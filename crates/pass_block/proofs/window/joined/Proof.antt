@@ -1,0 +1,67 @@
+-- `taking::window::joined` meets its contract: what is written stands side by side.
+use borrow.Author.Needs.{needs}
+use denote.Ref.{now}
+use Prim.Native.Nat.{ℕ, _+_, min}
+use mathlib.Core.Path.{_≡_, sym, ap, ap₂, _∙_}
+use mathlib.Core.List.{List, _++_}
+use native.Mathlib.Omega.{arith}
+use lib.ListN.{length, take, replicate, length-append}
+use lib.Seq.{take-all, length-take-le}
+use Rattle.laws.specs.Over.{overFrom}
+use Rattle.laws.proofs.Cases.{by-lt}
+use Rattle.laws.proofs.Writing.{take-over, overFrom-zero, overFrom-over}
+use Rattle.pass_block.proofs.window.joined.Statement.{statement}
+use Rattle.pass_block.proofs.window.joined.Tie as tie
+
+-- the window has its 48 bytes, and the part of the block as many as are asked for
+whole : (c : tie.Start) → length (c .args .t1) ≡ 48
+whole c = search needs
+
+part : (block : List ℕ) (n : ℕ) → n ≡ min 48 (length block) → length (take n block) ≡ n
+part block n e = length-take-le n block (omega arith)
+
+-- as many as there are of the first 48 bytes are the first 48 bytes
+first-bytes : (block : List ℕ) (n : ℕ) → n ≡ min 48 (length block) → take n block ≡ take 48 block
+first-bytes block n e =
+    by-lt (length block) 48
+    (λ h. take-all n block (omega arith) ∙ sym (take-all 48 block (omega arith)))
+    (λ h. let same : n ≡ 48 = omega arith in ap (λ k. take k block) same)
+
+side-by-side : (w s z : List ℕ) → take (length w + length s) (overFrom (length w) s (overFrom 0 w z)) ≡ w ++ s
+side-by-side w s z =
+    ap (λ l. take (length w + length s) (overFrom (length w) s l)) (overFrom-zero w z)
+    ∙ ap₂ take (sym (length-append w s)) (overFrom-over w s z) ∙ take-over (w ++ s) z
+
+both-is : (w block z first both : List ℕ) (count : ℕ) → length w ≡ 48 → count ≡ min 48 (length block)
+    → first ≡ overFrom 0 w z → both ≡ overFrom 48 (take count block) first → take (48 + min 48 (length block)) both ≡ w ++ take 48 block
+both-is w block z first both count long is e f =
+    let some = part block count is in
+    let all : 48 + min 48 (length block) ≡ length w + length (take count block) = omega arith in
+    ap₂ take all (f ∙ ap₂ (λ n l. overFrom n (take count block) l) (sym long) e)
+    ∙ side-by-side w (take count block) z ∙ ap (λ l. w ++ l) (first-bytes block count is)
+
+slice-aggregate-put-bytes-3 : tie.Need-slice-aggregate-put-bytes-3
+slice-aggregate-put-bytes-3 c = sym (part _ _ (c .before .before .before .before .before .smaller .ensures))
+
+put-bytes-requires-2 : tie.Need-put-bytes-requires-2
+put-bytes-requires-2 c κs =
+    let is = c .before .before .before .before .before .before .smaller .ensures in
+    omega (arith, c .before .before .before .put-bytes .kept .1 .1 .0, part (now (c .before .before .before .before .before .before .before .before .args .block)) _ is)
+
+returns : tie.Need-returns
+returns c =
+    let start = c .before .before .before .before .before .before .before .before .before .before in
+    both-is (start .args .t1) (now (start .args .block)) (replicate 96 0) _ _ _ (whole start) (c .before .before .before .before .before .before .before .before .smaller .ensures) (c .before .before .before .before .before .put-bytes .ensures) (c .before .put-bytes2 .ensures)
+
+pub joined-spec : {M : Type 1} → statement M
+joined-spec =
+    tie.close
+    (tie.spec
+    (λ c κs. search needs)
+    (λ c. search needs)
+    (λ c. search needs)
+    (λ c κs. search needs)
+    slice-aggregate-put-bytes-3
+    (λ c. search needs)
+    put-bytes-requires-2
+    returns)
