@@ -13,12 +13,13 @@ use Rattle.terms.specs.Answers.{longest}
 use Rattle.terms.proofs.Ranges.{ranges}
 use Rattle.lists.specs.WellFormed.{lengthOf}
 use Rattle.cutting.specs.Marks.{mark, cutList}
-use Rattle.cutting.specs.WholeLog.{cutLogList}
+use Rattle.cutting.specs.WholeLog.{cutLogRows, cutLogList}
+use Rattle.terms.specs.Rows.{verdict}
 use Rattle.cutting.proofs.Marked.{mark-low, marks-by-bytes}
 use Rattle.cutting.proofs.Reaching.{true-list}
 use Rattle.amending.specs.declared.edits.Edit.{Edit}
 use Rattle.amending.specs.Parts.{amendedList}
-use Rattle.amending.specs.Answers.{newCutsOf, editFits, judged, amendList}
+use Rattle.amending.specs.Answers.{newCutsOf, editFits, amendRows, amendList}
 use Rattle.amending.proofs.Fitting.{edit-fits}
 use Rattle.amending.proofs.ByMarks.{amended-by-marks}
 
@@ -63,7 +64,7 @@ module _ (settings : Settings) (a removed added b : List ℕ) where
   -- amending a true list leaves in the lent list what cutting the new log afresh leaves there, refusals included
   pub amend-cuts-afresh : (list : List ℕ) → length (a ++ (removed ++ b)) ≤ longest
       → amendList settings (cutList settings (a ++ (removed ++ b))) (replaced a removed added) (a ++ (added ++ b)) list ≡ cutLogList settings (a ++ (added ++ b)) list
-  unfolding amendList judged cutLogList
+  unfolding amendList amendRows cutLogList cutLogRows verdict
   amend-cuts-afresh list short =
       by-test (inRange settings)
       (λ ok. let known = true-list settings (a ++ (removed ++ b)) ok short in

@@ -1,38 +1,31 @@
 -- Demand 3 over bytes: new bytes outside the recut stretch cannot alter the answer.
 use Prim.Native.Nat.{ℕ, _+_, _-_, _≤_, _<_}
-use mathlib.Core.Path.{_≡_, sym, ap, _∙_}
-use mathlib.Core.Bool.{true}
+use mathlib.Core.Path.{_≡_, refl, sym, ap, _∙_}
+use mathlib.Core.Bool.{true, false}
 use mathlib.Core.List.{List}
 use native.Mathlib.Omega.{arith}
+use lib.Dec.{eqb}
 use lib.ListN.{length, getD}
 use Rattle.laws.specs.Last.{lastOr}
 use Rattle.laws.proofs.Cases.{by-lt, by-test}
 use Rattle.terms.specs.declared.Settings.{Settings}
 use Rattle.terms.specs.declared.Refusal.{Refusal}
+use Rattle.terms.specs.declared.Refusal.the-variants.{SettingsOutOfRange, ListNotWellFormed, EditOutOfRange}
+use Rattle.terms.specs.declared.Verdict.the-variants.{Wrong}
+use Rattle.terms.specs.Refusals.{numberOf}
+use Rattle.terms.specs.Rows.{verdict}
 use Rattle.terms.specs.Settings.{inRange}
 use Rattle.terms.proofs.Ranges.{ranges}
 use Rattle.lists.specs.WellFormed.{wellFormed, lengthOf}
 use Rattle.rule.specs.Rule.{cutsFrom}
 use Rattle.cutting.specs.Marks.{mark}
-use Rattle.cutting.specs.WholeLog.{writtenList}
 use Rattle.cutting.proofs.Marked.{mark-past, marks-by-bytes}
 use Rattle.amending.specs.declared.edits.Edit.{Edit}
-use Rattle.amending.specs.declared.Amendment.the-variants.{Refused}
 use Rattle.amending.specs.Parts.{front, restart, stretchEnd, recut, back, amendedList}
-use Rattle.amending.specs.Answers.{newCutsOf, editFits, partsAnswer, judged, amendAnswer, amendList}
+use Rattle.amending.specs.Answers.{newCutsOf, editFits, amendRows, amendAnswer, amendList}
 use Rattle.amending.proofs.Front.{front-is, restarts-low}
 use Rattle.amending.proofs.Fitting.{edit-told}
 use Rattle.amending.proofs.Stretch.{parts-same}
-
--- what follows the rows matters only where they are passed
-judged-same : {A : Type 0} (settings : Settings) (old : List ℕ) (edit : Edit) (bytes room : ℕ) (refused : Refusal → A) {x y : A}
-    → (inRange settings ≡ true → editFits (lengthOf old) edit bytes ≡ true → x ≡ y) → judged settings old edit bytes room refused x ≡ judged settings old edit bytes room refused y
-unfolding judged
-judged-same settings old edit bytes room refused same =
-    by-test (inRange settings)
-    (λ ok. by-test (editFits (lengthOf old) edit bytes) (λ fits. ap (judged settings old edit bytes room refused) (same ok fits))
-    (λ bad. by-test (wellFormed (settings .minimum) (settings .maximum) old) (λ formed. rw (ok, formed, bad)) (λ malformed. rw (ok, malformed))))
-    (λ bad. rw bad)
 
 -- two new logs of one length that agree on the recut stretch get the same answer, and leave the same list, from any old list
 module _ (settings : Settings) (old : List ℕ) (edit : Edit) (log log′ : List ℕ) (same : length log ≡ length log′)
@@ -62,18 +55,22 @@ module _ (settings : Settings) (old : List ℕ) (edit : Edit) (log log′ : List
           backs ∙ ap (λ n. back (cutsFrom (mark settings log′) (settings .minimum) (settings .maximum) n) old edit) same,
         )
 
-    list-same : amendedList (newCutsOf settings log) old edit ≡ amendedList (newCutsOf settings log′) old edit
-    unfolding amendedList
-    list-same = rw (parts .0, parts .1)
-
-    answer-same : (room : ℕ) → partsAnswer (newCutsOf settings log) old edit room ≡ partsAnswer (newCutsOf settings log′) old edit room
-    unfolding partsAnswer amendedList
-    answer-same room = rw (parts .0, parts .1)
+  -- the parts are the same, or both calls are refused by the same row
+  by-parts : {C : Type 0} → ((recut (newCutsOf settings log) old edit ≡ recut (newCutsOf settings log′) old edit) × (back (newCutsOf settings log) old edit ≡ back (newCutsOf settings log′) old edit) → C)
+      → ((why : Refusal) → eqb (numberOf why) 17 ≡ false → ((room : ℕ) → (verdict (amendRows settings old edit log room) ≡ Wrong why) × (verdict (amendRows settings old edit log′ room) ≡ Wrong why)) → C) → C
+  unfolding amendRows verdict
+  by-parts f g =
+      by-test (inRange settings)
+      (λ ok. by-test (editFits (lengthOf old) edit (length log)) (λ fits. f (parts ok fits))
+      (λ bad. by-test (wellFormed (settings .minimum) (settings .maximum) old)
+      (λ formed. g EditOutOfRange refl (λ room. (rw (ok, formed, bad), rw (← same, ok, formed, bad))))
+      (λ malformed. g ListNotWellFormed refl (λ room. (rw (ok, malformed), rw (ok, malformed))))))
+      (λ bad. g SettingsOutOfRange refl (λ room. (rw bad, rw bad)))
 
   pub stretch-only-answer : (room : ℕ) → amendAnswer settings old edit log room ≡ amendAnswer settings old edit log′ room
-  unfolding amendAnswer
-  stretch-only-answer room = judged-same settings old edit (length log) room Refused (λ ok fits. answer-same ok fits room) ∙ rw same
+  unfolding amendAnswer amendRows amendedList
+  stretch-only-answer room = by-parts (λ p. rw (p .0, p .1, same)) (λ why other v. rw (v room .0, v room .1))
 
   pub stretch-only-list : (list : List ℕ) → amendList settings old edit log list ≡ amendList settings old edit log′ list
-  unfolding amendList
-  stretch-only-list list = judged-same settings old edit (length log) (length list) (λ why. list) (λ ok fits. ap (λ l. writtenList l list) (list-same ok fits)) ∙ rw same
+  unfolding amendList amendRows amendedList
+  stretch-only-list list = by-parts (λ p. rw (p .0, p .1, same)) (λ why other v. rw (v (length list) .0, v (length list) .1, other))

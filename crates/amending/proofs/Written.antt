@@ -7,7 +7,7 @@ use native.Mathlib.Nat.{zero-add}
 use native.Mathlib.Omega.{arith}
 use lib.ListN.{length, getD, take, drop, length-append, length-map, length-take}
 use lib.Seq.{sets, length-sets, length-take-le, getD-take, getD-drop}
-use borrow.Author.Tests.{le-leb, lt-leb}
+use borrow.Author.Tests.{le-ltb, lt-ltb}
 use Rattle.laws.specs.Last.{lastOr}
 use Rattle.laws.proofs.Sets.{sets-joined, sets-written}
 use Rattle.terms.specs.declared.Refusal.the-variants.{ListFull}
@@ -17,6 +17,7 @@ use Rattle.cutting.specs.WholeLog.{writtenList}
 use Rattle.amending.specs.declared.edits.Edit.{Edit}
 use Rattle.amending.specs.declared.Amendment.the-variants.{Amended, Refused}
 use Rattle.amending.specs.Parts.{frontCount, front, pastFront, restart, moved, recut, back, amendedList}
+use Rattle.terms.specs.Rows.{verdict}
 use Rattle.amending.specs.Answers.{editFits, partsAnswer}
 use Rattle.amending.specs.Inner.{Ascends, noEdit, Movable, Recutted}
 use Rattle.amending.proofs.Fitting.{edit-told}
@@ -109,11 +110,11 @@ module _ {newCuts : ℕ → List ℕ} {old : List ℕ} {edit : Edit} {list₀ li
 
   pub parts-full : length list < kept + count + left
       → (Refused ListFull ≡ partsAnswer newCuts old edit (length list₀)) × (list ≡ writtenList (amendedList newCuts old edit) list₀)
-  unfolding partsAnswer
-  parts-full h = (rw (lt-leb (length (amendedList newCuts old edit)) (length list₀) (omega (arith, size, done .room))), done .holds)
+  unfolding partsAnswer verdict
+  parts-full h = (rw (lt-ltb (length list₀) (length (amendedList newCuts old edit)) (omega (arith, size, done .room))), done .holds)
 
   pub parts-fit : kept + count + left ≤ length list
       → (Amended kept count left ≡ partsAnswer newCuts old edit (length list₀)) × (list ≡ writtenList (amendedList newCuts old edit) list₀)
-  unfolding partsAnswer
+  unfolding partsAnswer verdict
   parts-fit h =
-      (rw (le-leb (length (amendedList newCuts old edit)) (length list₀) (omega (arith, size, done .room)), done .fronts, done .recuts, done .backs), done .holds)
+      (rw (le-ltb (length list₀) (length (amendedList newCuts old edit)) (omega (arith, size, done .room)), done .fronts, done .recuts, done .backs), done .holds)

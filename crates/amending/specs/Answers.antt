@@ -1,19 +1,19 @@
 -- What amending answers and leaves, for every input: document 01, "Numbers answered".
 use Prim.Native.Nat.{ℕ, _+_, _-_}
-use mathlib.Core.Bool.{Bool, _&&_}
-use mathlib.Core.List.{List}
-use lib.Dec.{leb, eqb}
+use mathlib.Core.Bool.{Bool, not, _&&_}
+use mathlib.Core.List.{List, [], _∷_}
+use lib.Dec.{leb, ltb, eqb}
 use lib.ListN.{length}
 use Rattle.terms.specs.declared.Settings.{Settings}
-use Rattle.terms.specs.declared.Refusal.{Refusal}
 use Rattle.terms.specs.declared.Refusal.the-variants.{SettingsOutOfRange, LogTooLong, RoomTooShort, ListNotWellFormed, EditOutOfRange, ListFull}
 use Rattle.terms.specs.Settings.{inRange}
 use Rattle.terms.specs.Refusals.{numberOf}
-use Rattle.terms.specs.Answers.{longest, roomFor, unless}
+use Rattle.terms.specs.Answers.{longest, roomFor}
+use Rattle.terms.specs.Rows.{Row, row, verdict, ruled, leaves}
 use Rattle.lists.specs.WellFormed.{wellFormed, lengthOf}
 use Rattle.rule.specs.Rule.{cutsFrom}
 use Rattle.cutting.specs.Marks.{mark}
-use Rattle.cutting.specs.WholeLog.{writtenList}
+use Rattle.cutting.specs.WholeLog.{guard, writtenList}
 use Rattle.amending.specs.declared.edits.Edit.{Edit}
 use Rattle.amending.specs.declared.Amendment.{Amendment}
 use Rattle.amending.specs.declared.Amendment.the-variants.{Amended, Refused}
@@ -45,25 +45,28 @@ newCutsOf settings log c = cutsFrom (mark settings log) (settings .minimum) (set
 unfoldable pub editFits : (n : ℕ) → Edit → (bytes : ℕ) → Bool
 editFits n edit bytes = leb (edit .at) n && (leb (edit .removed) (n - edit .at) && eqb bytes (n - edit .removed + edit .added))
 
+-- the counts of the three parts
+abbrev pub counts : (ℕ → List ℕ) → List ℕ → Edit → Amendment
+counts newCuts old edit = Amended (length (front (edit .at) old)) (length (recut newCuts old edit)) (length (back newCuts old edit))
+
 -- writing the three parts into a list with so many places: their counts, or the guard
 unfoldable pub partsAnswer : (ℕ → List ℕ) → List ℕ → Edit → (room : ℕ) → Amendment
-partsAnswer newCuts old edit room =
-    unless (leb (length (amendedList newCuts old edit)) room) (Refused ListFull)
-    (Amended (length (front (edit .at) old)) (length (recut newCuts old edit)) (length (back newCuts old edit)))
+partsAnswer newCuts old edit room = ruled (verdict (guard (amendedList newCuts old edit) room ∷ [])) Refused (counts newCuts old edit)
 
--- settings, old list, edit, length and room are judged in this order: what is made of the first that fails, or what follows where none does
-unfoldable pub judged : {A : Type 0} → Settings → List ℕ → Edit → (bytes room : ℕ) → (Refusal → A) → A → A
-judged settings old edit bytes room refused follows =
-    unless (inRange settings) (refused SettingsOutOfRange)
-    (unless (wellFormed (settings .minimum) (settings .maximum) old) (refused ListNotWellFormed)
-    (unless (editFits (lengthOf old) edit bytes) (refused EditOutOfRange)
-    (unless (leb bytes longest) (refused LogTooLong)
-    (unless (leb (roomFor (settings .minimum) bytes) room) (refused RoomTooShort) follows))))
+-- 1, 10, 11, 2, 5, and the guard
+unfoldable pub amendRows : Settings → List ℕ → Edit → List ℕ → ℕ → List Row
+amendRows settings old edit log room =
+    row SettingsOutOfRange (not (inRange settings))
+    ∷ row ListNotWellFormed (not (wellFormed (settings .minimum) (settings .maximum) old))
+    ∷ row EditOutOfRange (not (editFits (lengthOf old) edit (length log)))
+    ∷ row LogTooLong (ltb longest (length log))
+    ∷ row RoomTooShort (ltb room (roomFor (settings .minimum) (length log)))
+    ∷ guard (amendedList (newCutsOf settings log) old edit) room
+    ∷ []
 
 unfoldable pub amendAnswer : Settings → List ℕ → Edit → List ℕ → ℕ → Amendment
-amendAnswer settings old edit log room = judged settings old edit (length log) room Refused (partsAnswer (newCutsOf settings log) old edit room)
+amendAnswer settings old edit log room = ruled (verdict (amendRows settings old edit log room)) Refused (counts (newCutsOf settings log) old edit)
 
--- where one of these is refused, the list stays as it was; else the amended list is written, as far as there are places
 unfoldable pub amendList : Settings → List ℕ → Edit → List ℕ → List ℕ → List ℕ
 amendList settings old edit log list =
-    judged settings old edit (length log) (length list) (λ why. list) (writtenList (amendedList (newCutsOf settings log) old edit) list)
+    leaves (verdict (amendRows settings old edit log (length list))) ListFull list (writtenList (amendedList (newCutsOf settings log) old edit) list)

@@ -17,6 +17,7 @@ use Rattle.terms.specs.declared.Answer.the-variants.{Wrote, Refused}
 use Rattle.board_record.specs.declared.Recorded.{Recorded}
 use Rattle.board_bays.specs.Bays.{Record, entries}
 use Rattle.terms.specs.Answers.{longest}
+use Rattle.terms.specs.Rows.{verdict}
 use Rattle.board_bays.specs.Segments.{segments, shapeFits, boardFits, bayFits, segmentFits, There}
 use Rattle.board.specs.Recording.{recordFits, recordAnswer, recorded, withBay}
 use Rattle.board_record.specs.Stretches.{Records}
@@ -49,7 +50,7 @@ module _ (r : Record) (rec : Recorded) (bay part : List ℕ) (wide : 2 ≤ lengt
   pub record-fitted : rec .count ≤ length bay - 2
       → (Wrote (rec .count + 2) ≡ recordAnswer r (length bay))
       × (set (set (take 2 bay ++ (part ++ drop (length bay - 2) (drop 2 bay))) 0 (rec .count + 1)) 1 (rec .marker) ≡ recorded r bay)
-  unfolding recordAnswer recordFits recorded over entries
+  unfolding recordAnswer verdict recordFits recorded over entries
   record-fitted h =
       let fits : length (r .offsets) ≤ length bay - 2 = omega (arith, count-is) in
       let n : rec .count + 1 ≡ suc (length (r .offsets)) = omega (arith, count-is) in
@@ -63,7 +64,7 @@ module _ (r : Record) (rec : Recorded) (bay part : List ℕ) (wide : 2 ≤ lengt
   pub record-long : length bay - 2 < rec .count
       → (Refused RecordTooLong ≡ recordAnswer r (length bay))
       × (set (set (take 2 bay ++ (part ++ drop (length bay - 2) (drop 2 bay))) 0 0) 1 0 ≡ recorded r bay)
-  unfolding recordAnswer recordFits recorded
+  unfolding recordAnswer verdict recordFits recorded
   record-long h =
       let long : length bay - 2 < length (r .offsets) = omega (arith, count-is) in
       let filled : length (drop 2 bay) ≡ length (take (length bay - 2) (r .offsets)) = rw (length-drop, length-take) (omega arith) in (

@@ -2,10 +2,10 @@
 ghost use mathlib.Core.Path.{_≡_};
 ghost use lib.ListN.{length};
 ghost use Rattle.board.specs.Merging.{mergeAnswer, mergeList};
-use board_bays::Verdict;
 use terms::Answer;
 use terms::Refusal;
 use terms::Settings;
+use terms::Verdict;
 
 // All bays are judged before the first cut is written.
 pub fn merge(
@@ -21,8 +21,8 @@ pub fn merge(
 {
     let fits = board_bays::shapes::board_fits(size, width, n, board.len() as u64);
     match board_bays::shapes::judge(settings, n, fits) {
-        Verdict::Denied(why) => return Answer::Refused(why),
-        Verdict::Granted => {}
+        Verdict::Wrong(why) => return Answer::Refused(why),
+        Verdict::Fine => {}
     }
     let places = list.len() as u64;
     let minimum = settings.minimum;
@@ -30,8 +30,8 @@ pub fn merge(
         return Answer::Refused(Refusal::RoomTooShort);
     }
     match board_bays::judging::judge_bays(settings, size, width, n, board) {
-        Verdict::Denied(why) => return Answer::Refused(why),
-        Verdict::Granted => {}
+        Verdict::Wrong(why) => return Answer::Refused(why),
+        Verdict::Fine => {}
     }
     let count = board_walk::walk_board(list, settings, n, size, width, board);
     if count > places {

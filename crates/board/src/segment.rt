@@ -8,10 +8,10 @@ ghost use Rattle.cutting.specs.Marks.{mark};
 ghost use Rattle.board_bays.specs.Segments.{There};
 ghost use Rattle.board_record.specs.Records.{segmentOf};
 ghost use Rattle.board.specs.Recording.{recordAnswer, recorded, bayAnswer, bayAfter, segmentAnswer, segmentBoard};
-use board_bays::Verdict;
 use terms::Answer;
 use terms::Refusal;
 use terms::Settings;
+use terms::Verdict;
 
 // Records a segment that is there into its bay.
 fn fill_bay(settings: Settings, log: &[u8], size: u64, i: u64, bay: &mut [u64]) -> Answer
@@ -39,8 +39,8 @@ pub fn record_bay(settings: Settings, log: &[u8], size: u64, i: u64, bay: &mut [
     let n = log.len() as u64;
     let fits = board_bays::shapes::bay_fits(size, bay.len() as u64, n, i);
     match board_bays::shapes::judge(settings, n, fits) {
-        Verdict::Denied(why) => return Answer::Refused(why),
-        Verdict::Granted => {}
+        Verdict::Wrong(why) => return Answer::Refused(why),
+        Verdict::Fine => {}
     }
     fill_bay(settings, log, size, i, bay)
 }
@@ -60,8 +60,8 @@ pub fn segment(
     let n = log.len() as u64;
     let fits = board_bays::shapes::segment_fits(size, width, n, i, board.len() as u64);
     match board_bays::shapes::judge(settings, n, fits) {
-        Verdict::Denied(why) => return Answer::Refused(why),
-        Verdict::Granted => {}
+        Verdict::Wrong(why) => return Answer::Refused(why),
+        Verdict::Fine => {}
     }
     let start = (i * width) as usize;
     fill_bay(

@@ -9,9 +9,11 @@ use lib.ListN.{length, getD}
 use borrow.Author.Tests.{le-leb, lt-leb, lt-ltb, le-ltb, ltb-true}
 use Rattle.terms.specs.declared.Settings.{Settings}
 use Rattle.terms.specs.declared.Refusal.{Refusal}
-use Rattle.board_bays.specs.declared.Verdict.{Verdict}
-use Rattle.board_bays.specs.declared.Verdict.the-variants.{Granted, Denied}
-use Rattle.board_bays.specs.Judging.{bayJudged, baysJudged, ifGranted}
+use Rattle.terms.specs.declared.Verdict.{Verdict}
+use Rattle.terms.specs.declared.Verdict.the-variants.{Fine, Wrong}
+use Rattle.terms.specs.Rows.{verdict, ruled}
+use Rattle.terms.proofs.Verdicts.{joined}
+use Rattle.board_bays.specs.Judging.{bayRows, baysRows}
 use Rattle.board_bays.specs.Segments.{segmentStart, segmentEnd}
 use Rattle.board_bays.specs.Bays.{bayOf, isDone, offsetCount, recordIn, isSound, risesWithin, markerFits}
 
@@ -41,23 +43,23 @@ not-done bay h = le-ltb 0 (getD bay 0 0) (omega arith)
 
 -- the bays from bay i on, of so many, as the code judges them
 module _ (s : Settings) (size width n : ℕ) (board : List ℕ) (count i : ℕ) where
-  module _ (h : i < count) (bay : List ℕ) (is-bay : bay ≡ bayOf width board i) (v : Verdict) (told : v ≡ bayJudged s size n i bay) where
-    opened : baysJudged s size width n board (count - i) i ≡ ifGranted v Denied (baysJudged s size width n board (count - (i + 1)) (i + 1))
-    unfolding baysJudged
+  module _ (h : i < count) (bay : List ℕ) (is-bay : bay ≡ bayOf width board i) (v : Verdict) (told : v ≡ verdict (bayRows s size n i bay)) where
+    opened : verdict (baysRows s size width n board (count - i) i) ≡ ruled v Wrong (verdict (baysRows s size width n board (count - (i + 1)) (i + 1)))
+    unfolding baysRows
     opened =
         let left : count - i ≡ suc (count - (i + 1)) = omega arith in
-        rw (left, told, is-bay, add-one)
+        rw (left, told, is-bay, add-one) (joined (bayRows s size n i (bayOf width board i)) _)
 
-    pub judged-on : v ≡ Granted → baysJudged s size width n board (count - i) i ≡ baysJudged s size width n board (count - (i + 1)) (i + 1)
+    pub judged-on : v ≡ Fine → verdict (baysRows s size width n board (count - i) i) ≡ verdict (baysRows s size width n board (count - (i + 1)) (i + 1))
     judged-on e = opened ∙ rw e
 
-    pub judged-denied : (why : Refusal) → v ≡ Denied why → baysJudged s size width n board (count - i) i ≡ Denied why
-    judged-denied why e = opened ∙ rw e
+    pub judged-wrong : (why : Refusal) → v ≡ Wrong why → verdict (baysRows s size width n board (count - i) i) ≡ Wrong why
+    judged-wrong why e = opened ∙ rw e
 
-  pub judged-all : count ≤ i → baysJudged s size width n board (count - i) i ≡ Granted
-  unfolding baysJudged
+  pub judged-all : count ≤ i → verdict (baysRows s size width n board (count - i) i) ≡ Fine
+  unfolding baysRows verdict
   judged-all h = let none : count - i ≡ 0 = omega arith in rw none
 
 pub judged-whole : (s : Settings) (size width n : ℕ) (board : List ℕ) {count k : ℕ} {v : Verdict} → count ≡ k
-    → baysJudged s size width n board count 0 ≡ v → v ≡ baysJudged s size width n board k 0
-judged-whole s size width n board e h = sym h ∙ ap (λ (j : ℕ). baysJudged s size width n board j 0) e
+    → verdict (baysRows s size width n board count 0) ≡ v → v ≡ verdict (baysRows s size width n board k 0)
+judged-whole s size width n board e h = sym h ∙ ap (λ (j : ℕ). verdict (baysRows s size width n board j 0)) e

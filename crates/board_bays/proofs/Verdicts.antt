@@ -1,57 +1,39 @@
--- What a verdict of granted says of the rows before it.
+-- What a table in which no row holds says of its rows.
 use Prim.Native.Nat.{ℕ, zero, suc, _+_, _-_, _≤_, _<_}
 use mathlib.Core.Path.{_≡_, refl, sym, ap, _∙_}
 use mathlib.Core.Bool.{Bool, true}
 use mathlib.Core.List.{List}
 use native.Mathlib.Omega.{arith}
-use lib.Dec.{leb}
 use lib.ListN.{length}
-use borrow.Author.Tests.{leb-true}
-use Rattle.laws.proofs.Cases.{by-test, both-true}
+use borrow.Author.Tests.{leb-true, ltb-false, not-false}
+use Rattle.laws.proofs.Cases.{both-true}
 use Rattle.terms.specs.declared.Settings.{Settings}
-use Rattle.terms.specs.declared.Refusal.{Refusal}
-use Rattle.terms.specs.declared.Refusal.the-variants.{SettingsOutOfRange, LogTooLong, NoSuchSegment, BayNotDone, BayMalformed}
+use Rattle.terms.specs.declared.Refusal.the-variants.{RecordTooLong, ListFull}
+use Rattle.terms.specs.declared.Verdict.{Verdict}
+use Rattle.terms.specs.declared.Verdict.the-variants.{Fine}
+use Rattle.terms.specs.Rows.{verdict, lacks}
+use Rattle.terms.proofs.Verdicts.{clear, both-clear}
 use Rattle.terms.specs.Settings.{inRange}
 use Rattle.terms.specs.Answers.{longest}
-use Rattle.board_bays.specs.declared.Verdict.{Verdict}
-use Rattle.board_bays.specs.declared.Verdict.the-variants.{Granted, Denied}
 use Rattle.board_bays.specs.Segments.{segmentStart, segmentEnd}
 use Rattle.board_bays.specs.Bays.{bayOf, isDone, offsetCount, recordIn, risesWithin, markerFits, isSound}
-use Rattle.board_bays.specs.Judging.{judged, bayJudged, baysJudged, ifGranted}
-
-pub by-verdict {ℓ} : {C : Type ℓ} (v : Verdict) → (v ≡ Granted → C) → ((why : Refusal) → v ≡ Denied why → C) → C
-by-verdict Granted f g = f refl
-by-verdict (Denied why) f g = g why refl
-
-pub not-both : {v : Verdict} {why : Refusal} → v ≡ Denied why → v ≡ Granted → ⊥
-not-both p q = let z : _≡_ {A = ℕ} 0 1 = cc in omega arith
+use Rattle.board_bays.specs.Judging.{callRows, bayRows, baysRows}
 
 -- rows 1, 2 and 7
-pub granted : (s : Settings) (n : ℕ) (fits : Bool) → judged s n fits ≡ Granted → (inRange s ≡ true) × (leb n longest ≡ true) × (fits ≡ true)
-unfolding judged
-granted s n fits v =
-    by-test (inRange s)
-    (λ a. by-test (leb n longest)
-    (λ b. by-test fits (λ c. (a, b, c)) (λ c. absurd (not-both {why = NoSuchSegment} (rw (a, b, c)) v)))
-    (λ b. absurd (not-both {why = LogTooLong} (rw (a, b)) v)))
-    (λ a. absurd (not-both {why = SettingsOutOfRange} (rw a) v))
+pub passed : (s : Settings) (n : ℕ) (fits : Bool) → verdict (callRows s n fits) ≡ Fine → (inRange s ≡ true) × (n ≤ longest) × (fits ≡ true)
+unfolding callRows
+passed s n fits v =
+    let a = clear _ _ _ v in
+    let b = clear _ _ _ (a .1) in
+    (not-false _ (a .0), ltb-false _ _ (b .0), not-false _ (clear _ _ _ (b .1) .0))
 
--- a call that judges these rows first, the last by a test that it asked: what it answers and leaves where it is refused, and where it goes on
-module _ (s : Settings) (n : ℕ) {v : Verdict} {asked fits : Bool} (told : v ≡ judged s n asked) (fit : asked ≡ fits) where
-  pub verdict-is : judged s n fits ≡ v
-  verdict-is = sym (told ∙ ap (judged s n) fit)
+pub plain-call : (s : Settings) (n : ℕ) (fits : Bool) → (lacks RecordTooLong (callRows s n fits) ≡ true) × (lacks ListFull (callRows s n fits) ≡ true)
+unfolding lacks callRows
+plain-call s n fits = (refl, refl)
 
-  pub refused-at : {why : Refusal} → v ≡ Denied why → {A B : Type 0} (refused : Refusal → A) (answer : A) (before after : B)
-      → (refused why ≡ ifGranted (judged s n fits) refused answer) × (before ≡ ifGranted (judged s n fits) (λ _. before) after)
-  refused-at e refused answer before after = (rw (verdict-is ∙ e), rw (verdict-is ∙ e))
-
-  module _ (fine : v ≡ Granted) where
-    pub goes-on : {A B : Type 0} (refused : Refusal → A) {r answer : A} (before : B) {left after : B} → r ≡ answer → left ≡ after
-        → (r ≡ ifGranted (judged s n fits) refused answer) × (left ≡ ifGranted (judged s n fits) (λ _. before) after)
-    goes-on refused before p q = (rw (verdict-is ∙ fine) p, rw (verdict-is ∙ fine) q)
-
-    pub passed : (inRange s ≡ true) × (n ≤ longest) × (fits ≡ true)
-    passed = let g = granted s n fits (verdict-is ∙ fine) in (g .0, leb-true _ _ (g .1), g .2)
+-- the rows as a call judged them, the last by a test that it asked
+pub came : (s : Settings) (n : ℕ) {v w : Verdict} {asked fits : Bool} → v ≡ verdict (callRows s n asked) → asked ≡ fits → v ≡ w → verdict (callRows s n fits) ≡ w
+came s n told fit e = sym (told ∙ ap (λ t. verdict (callRows s n t)) fit) ∙ e
 
 -- rows 8 and 9 of a bay
 pub record Judged (s : Settings) (size n i : ℕ) (bay : List ℕ) : Type 0 where
@@ -67,29 +49,25 @@ sound-bay s size n i bay d t =
     let b = both-true (a .1) in
     record { done = d; few = leb-true _ _ (a .0); rises = b .0; fits = b .1 }
 
-pub granted-bay : (s : Settings) (size n i : ℕ) (bay : List ℕ) → bayJudged s size n i bay ≡ Granted → Judged s size n i bay
-unfolding bayJudged
-granted-bay s size n i bay v =
-    by-test (isDone bay)
-    (λ a. by-test (isSound (s .minimum) (s .maximum) size n i bay)
-    (λ b. sound-bay s size n i bay a b)
-    (λ b. absurd (not-both {why = BayMalformed} (rw (a, b)) v)))
-    (λ a. absurd (not-both {why = BayNotDone} (rw a) v))
+pub done-bay : (s : Settings) (size n i : ℕ) (bay : List ℕ) → verdict (bayRows s size n i bay) ≡ Fine → Judged s size n i bay
+unfolding bayRows
+done-bay s size n i bay v =
+    let a = clear _ _ _ v in
+    sound-bay s size n i bay (not-false _ (a .0)) (not-false _ (clear _ _ _ (a .1) .0))
 
 -- of each bay among those from bay i on
 module _ (s : Settings) (size width n : ℕ) (board : List ℕ) where
-  first-granted : (k i : ℕ) → baysJudged s size width n board (suc k) i ≡ Granted
-      → (bayJudged s size n i (bayOf width board i) ≡ Granted) × (baysJudged s size width n board k (suc i) ≡ Granted)
-  unfolding baysJudged
-  first-granted k i v =
-      by-verdict (bayJudged s size n i (bayOf width board i))
-      (λ e. (e, rw e at v))
-      (λ why e. absurd (not-both {why = why} (rw e) v))
+  pub plain-bays : (k i : ℕ) → lacks ListFull (baysRows s size width n board k i) ≡ true
+  unfolding lacks baysRows bayRows
+  plain-bays zero i = refl
+  plain-bays (suc k) i = plain-bays k (suc i)
 
-  pub each-granted : (k i j : ℕ) → j < k → baysJudged s size width n board k i ≡ Granted → Judged s size n (i + j) (bayOf width board (i + j))
-  each-granted zero i j h v = absurd (omega arith)
-  each-granted (suc k) i zero h v =
+  pub each-done : (k i j : ℕ) → j < k → verdict (baysRows s size width n board k i) ≡ Fine → Judged s size n (i + j) (bayOf width board (i + j))
+  unfolding baysRows
+  each-done zero i j h v = absurd (omega arith)
+  each-done (suc k) i zero h v =
       let here : i + 0 ≡ i = omega arith in
-      rw here (granted-bay s size n i (bayOf width board i) (first-granted k i v .0))
-  each-granted (suc k) i (suc j) h v =
-      let there : i + suc j ≡ suc i + j = omega arith in rw there (each-granted k (suc i) j (omega arith) (first-granted k i v .1))
+      rw here (done-bay s size n i (bayOf width board i) (both-clear (bayRows s size n i (bayOf width board i)) (baysRows s size width n board k (suc i)) v .0))
+  each-done (suc k) i (suc j) h v =
+      let there : i + suc j ≡ suc i + j = omega arith in
+      rw there (each-done k (suc i) j (omega arith) (both-clear (bayRows s size n i (bayOf width board i)) (baysRows s size width n board k (suc i)) v .1))

@@ -3,12 +3,13 @@ ghost use mathlib.Core.Path.{_≡_};
 ghost use mathlib.Core.Bool.{true};
 ghost use Prim.Native.Nat.{_≤_, _^_};
 ghost use lib.ListN.{length};
+ghost use Rattle.terms.specs.Rows.{verdict};
 ghost use Rattle.board_bays.specs.Segments.{segments, boardFits, There};
 ghost use Rattle.board_bays.specs.Bays.{risesWithin, stepsWithin, fromMarker, markerFits, isSound, isDone};
-ghost use Rattle.board_bays.specs.Judging.{bayJudged, baysJudged};
-use super::Verdict;
+ghost use Rattle.board_bays.specs.Judging.{bayRows, baysRows};
 use terms::Refusal;
 use terms::Settings;
+use terms::Verdict;
 
 // Whether offsets strictly rise from above one offset and stay at or below another.
 fn rises_within(offsets: &[u64], above: u64, last: u64) -> bool
@@ -94,31 +95,31 @@ fn is_sound(settings: Settings, size: u64, n: u64, i: u64, bay: &[u64]) -> bool
 fn judge_bay(settings: Settings, size: u64, n: u64, i: u64, bay: &[u64]) -> Verdict
     requires { ⌜ There size n i ⌝ }
     requires { ⌜ 2 ≤ length (now bay) ⌝ }
-    ensures { λ r. ⌜ r ≡ bayJudged settings size n i (now (bay .entry)) ⌝ }
+    ensures { λ r. ⌜ r ≡ verdict (bayRows settings size n i (now (bay .entry))) ⌝ }
 {
     if bay[0] == 0 {
-        return Verdict::Denied(Refusal::BayNotDone);
+        return Verdict::Wrong(Refusal::BayNotDone);
     }
     if !is_sound(settings, size, n, i, bay) {
-        return Verdict::Denied(Refusal::BayMalformed);
+        return Verdict::Wrong(Refusal::BayMalformed);
     }
-    Verdict::Granted
+    Verdict::Fine
 }
 
 // Rows 8 and 9 for all bays, from the lowest.
 pub fn judge_bays(settings: Settings, size: u64, width: u64, n: u64, board: &[u64]) -> Verdict
     requires { ⌜ (n ≤ 2 ^ 40) × (boardFits size width n (length (now board)) ≡ true) ⌝ }
-    ensures { λ r. ⌜ r ≡ baysJudged settings size width n (now (board .entry)) (segments size n) 0 ⌝ }
+    ensures { λ r. ⌜ r ≡ verdict (baysRows settings size width n (now (board .entry)) (segments size n) 0) ⌝ }
 {
     let count = super::shapes::segments_of(size, n);
     let mut i = 0;
     while i < count {
         let bay = super::reading::bay_at(board, width, i);
         match judge_bay(settings, size, n, i, bay) {
-            Verdict::Denied(why) => return Verdict::Denied(why),
-            Verdict::Granted => {}
+            Verdict::Wrong(why) => return Verdict::Wrong(why),
+            Verdict::Fine => {}
         }
         i += 1;
     }
-    Verdict::Granted
+    Verdict::Fine
 }

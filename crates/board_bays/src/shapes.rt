@@ -1,11 +1,12 @@
 // The rows that every call on segments shares, and the board's shape. Sizes and numbers are any: nothing is multiplied before it is bounded.
 ghost use mathlib.Core.Path.{_≡_};
 ghost use Prim.Native.Nat.{_+_, _≤_, _^_, min};
+ghost use Rattle.terms.specs.Rows.{verdict};
 ghost use Rattle.board_bays.specs.Segments.{segments, shapeFits, boardFits, bayFits, segmentFits};
-ghost use Rattle.board_bays.specs.Judging.{judged};
-use super::Verdict;
+ghost use Rattle.board_bays.specs.Judging.{callRows};
 use terms::Refusal;
 use terms::Settings;
+use terms::Verdict;
 
 // How many segments a log has.
 pub fn segments_of(size: u64, n: u64) -> u64
@@ -81,16 +82,16 @@ pub fn segment_fits(size: u64, width: u64, n: u64, i: u64, numbers: u64) -> bool
 
 // Rows 1, 2 and 7.
 pub fn judge(settings: Settings, n: u64, fits: bool) -> Verdict
-    ensures { λ r. ⌜ r ≡ judged settings n fits ⌝ }
+    ensures { λ r. ⌜ r ≡ verdict (callRows settings n fits) ⌝ }
 {
     if !settings.in_range() {
-        return Verdict::Denied(Refusal::SettingsOutOfRange);
+        return Verdict::Wrong(Refusal::SettingsOutOfRange);
     }
     if n > terms::LONGEST {
-        return Verdict::Denied(Refusal::LogTooLong);
+        return Verdict::Wrong(Refusal::LogTooLong);
     }
     if !fits {
-        return Verdict::Denied(Refusal::NoSuchSegment);
+        return Verdict::Wrong(Refusal::NoSuchSegment);
     }
-    Verdict::Granted
+    Verdict::Fine
 }

@@ -1,7 +1,7 @@
 -- A true board is never refused by 8 or 9: a bay that holds its segment's record is done and not malformed.
 use Prim.Native.Nat.{ℕ, zero, suc, _+_, _-_, _≤_, _<_}
-use mathlib.Core.Path.{_≡_, refl, _∙_}
-use mathlib.Core.Bool.{Bool, true, false}
+use mathlib.Core.Path.{_≡_, refl, ap, _∙_}
+use mathlib.Core.Bool.{Bool, true, false, not}
 use mathlib.Core.List.{List, _∷_}
 use native.Mathlib.Nat.{zero-mul}
 use native.Mathlib.Omega.{arith}
@@ -13,11 +13,13 @@ use Rattle.rule.specs.Rule.{hop, cutsUpTo}
 use Rattle.rule.proofs.Hops.{UpTo, past, leap, up-to, hop-rises, hop-long}
 use Rattle.lists.specs.WellFormed.{stepFits}
 use Rattle.terms.specs.declared.Settings.{Settings}
-use Rattle.board_bays.specs.declared.Verdict.the-variants.{Granted}
+use Rattle.terms.specs.declared.Verdict.the-variants.{Fine}
+use Rattle.terms.specs.Rows.{verdict}
+use Rattle.terms.proofs.Verdicts.{top, past, reached}
 use Rattle.board_bays.specs.Segments.{segments, segmentStart, segmentEnd}
 use Rattle.board_bays.specs.Bays.{Record, bayOf, isSound, offsetCount, risesWithin, isListed, followers, stepsWithin, fromMarker, markerFits, Holds}
 use Rattle.board_record.specs.Records.{slowRecord, recordAfter, isMarker, prepend, segmentRecord}
-use Rattle.board_bays.specs.Judging.{bayJudged, baysJudged}
+use Rattle.board_bays.specs.Judging.{bayRows, baysRows}
 use Rattle.board_record.proofs.Marking.{Marks, none-left, then-mark, marks-in}
 use Rattle.board_bays.proofs.Ranges.{spans}
 use Rattle.board_merged.proofs.ReadBack.{read-back, room, done}
@@ -116,14 +118,14 @@ module _ (mark : ℕ → Bool) (lo hi : ℕ) (positive : 0 < lo) (order : lo ≤
 module _ (s : Settings) (mark : ℕ → Bool) (positive : 0 < s .minimum) (order : s .minimum ≤ s .maximum) (size n : ℕ) (sized : 0 < size)
     (width : ℕ) (board : List ℕ)
     (held : (i : ℕ) → i < segments size n → Holds (bayOf width board i) (segmentRecord mark (s .minimum) (s .maximum) size n i)) where
-  from-bay : (k i : ℕ) → i + k ≡ segments size n → baysJudged s size width n board k i ≡ Granted
-  unfolding baysJudged bayJudged
-  from-bay zero i count = refl
+  from-bay : (k i : ℕ) → i + k ≡ segments size n → verdict (baysRows s size width n board k i) ≡ Fine
+  unfolding baysRows bayRows
+  from-bay zero i count = unfold verdict in refl
   from-bay (suc k) i count =
       let here : i < segments size n = omega arith in
       let bay : List ℕ = bayOf width board i in
-      rw (done bay _ (held i here), sound mark (s .minimum) (s .maximum) positive order size n sized i here bay (held i here), bayJudged, baysJudged)
-      (from-bay k (suc i) (omega arith))
+      reached (past (ap not (done bay _ (held i here))) (past (ap not (sound mark (s .minimum) (s .maximum) positive order size n sized i here bay (held i here))) top))
+      ∙ from-bay k (suc i) (omega arith)
 
-  pub true-bays-accepted : baysJudged s size width n board (segments size n) 0 ≡ Granted
+  pub true-bays-accepted : verdict (baysRows s size width n board (segments size n) 0) ≡ Fine
   true-bays-accepted = from-bay (segments size n) 0 (omega arith)

@@ -6,9 +6,10 @@ use mathlib.Core.List.{List, List·Memᴰ}
 use lib.ListN.{length}
 use Rattle.rule.specs.Rule.{cuts}
 use Rattle.terms.specs.declared.Settings.{Settings}
-use Rattle.board_bays.specs.declared.Verdict.the-variants.{Granted}
+use Rattle.terms.specs.declared.Verdict.the-variants.{Fine}
+use Rattle.terms.specs.Rows.{verdict}
 use Rattle.board_bays.specs.Segments.{segments, segmentFits}
-use Rattle.board_bays.specs.Judging.{judged}
+use Rattle.board_bays.specs.Judging.{callRows}
 use Rattle.board_bays.specs.Bays.{bayOf, recordIn, Holds}
 use Rattle.board_walk.specs.Walk.{boardWalk}
 use Rattle.board_record.specs.Records.{segmentOf}
@@ -29,7 +30,7 @@ module _ (mark : ℕ → Bool) (s : Settings) (positive : 0 < s .minimum) (order
   -- calls that are granted, whose records fit, and among which each segment is
   pub recorded-merged : (calls board : List ℕ)
       → ((i : ℕ) → i < segments size n
-      → (judged s n (segmentFits size width n i (length board)) ≡ Granted) × (recordFits (segmentOf mark s n size i) width ≡ true) × List·Memᴰ i calls)
+      → (verdict (callRows s n (segmentFits size width n i (length board))) ≡ Fine) × (recordFits (segmentOf mark s n size i) width ≡ true) × List·Memᴰ i calls)
       → boardWalk s n size width (recordAll mark s n size width calls board) ≡ cuts mark (s .minimum) (s .maximum) n
   recorded-merged calls board all =
       merged-board (recordAll mark s n size width calls board)

@@ -14,14 +14,17 @@ use Rattle.laws.specs.Over.{over}
 use Rattle.laws.proofs.Cases.{by-lt, by-test, both-true}
 use Rattle.laws.proofs.Writing.{length-over}
 use Rattle.terms.specs.declared.Settings.{Settings}
-use Rattle.board_bays.specs.declared.Verdict.{Verdict}
-use Rattle.board_bays.specs.declared.Verdict.the-variants.{Granted}
+use Rattle.terms.specs.declared.Verdict.{Verdict}
+use Rattle.terms.specs.declared.Verdict.the-variants.{Fine}
+use Rattle.terms.specs.declared.Refusal.the-variants.{RecordTooLong}
+use Rattle.terms.specs.Rows.{verdict, ruled}
+use Rattle.terms.proofs.Verdicts.{by-verdict, left-by}
 use Rattle.board_bays.specs.Segments.{segments, segmentFits}
 use Rattle.board_bays.specs.Bays.{Record, entries, bayOf, Holds}
 use Rattle.board_record.specs.Records.{segmentOf}
-use Rattle.board_bays.specs.Judging.{judged, ifGranted}
-use Rattle.board.specs.Recording.{recordFits, recorded, withBay, segmentBoard, recordAll}
-use Rattle.board_bays.proofs.Verdicts.{by-verdict, granted}
+use Rattle.board_bays.specs.Judging.{callRows}
+use Rattle.board.specs.Recording.{recordFits, recorded, withBay, segmentRows, segmentBoard, recordAll}
+use Rattle.board_bays.proofs.Verdicts.{passed, plain-call}
 use Rattle.board_bays.proofs.Ranges.{bay-inside, length-bay, BoardShape, board-shape}
 use Rattle.laws.proofs.Sets.{sets-commute, part-same, part-other}
 
@@ -51,20 +54,20 @@ module _ (mark : ℕ → Bool) (s : Settings) (n size width : ℕ) where
   abbrev call : ℕ → List ℕ → List ℕ
   call i board = segmentBoard mark s n size i width board
 
-  abbrev verdict : ℕ → ℕ → Verdict
-  verdict i numbers = judged s n (segmentFits size width n i numbers)
+  abbrev shape : ℕ → ℕ → Verdict
+  shape i numbers = verdict (callRows s n (segmentFits size width n i numbers))
 
   -- what a call on a board of so many numbers stores into its bay: nothing where it is refused
   storing : ℕ → ℕ → List ℕ → List ℕ
-  storing i numbers bay = ifGranted (verdict i numbers) (λ _. []) (recorded (segmentOf mark s n size i) bay)
+  storing i numbers bay = ruled (shape i numbers) (λ _. []) (recorded (segmentOf mark s n size i) bay)
 
   abbrev stores : ℕ → List ℕ → List ℕ
   stores i board = storing i (length board) (bayOf width board i)
 
-  module _ (i : ℕ) (board : List ℕ) (v : verdict i (length board) ≡ Granted) where
+  module _ (i : ℕ) (board : List ℕ) (v : shape i (length board) ≡ Fine) where
     shaped : BoardShape size width n (length board) × (i < segments size n)
     unfolding segmentFits
-    shaped = let all = both-true (granted s n _ v .2) in (board-shape size width n (length board) (all .0), ltb-true _ _ (all .1))
+    shaped = let all = both-true (passed s n _ v .2) in (board-shape size width n (length board) (all .0), ltb-true _ _ (all .1))
 
     inside : i * width + width ≤ length board
     inside = bay-inside (segments size n) width i (length board) (shaped .1) (shaped .0 .enough)
@@ -79,26 +82,33 @@ module _ (mark : ℕ → Bool) (s : Settings) (n size width : ℕ) where
     stores-all : length (stores i board) ≡ width
     stores-all = ap length stores-record ∙ length-recorded (segmentOf mark s n size i) (bayOf width board i) (rw bay-long (shaped .0 .wide)) ∙ bay-long
 
+  -- rows 1, 2 and 7 alone say whether the bay is written: 6 writes it too
+  call-by : (i : ℕ) (board : List ℕ)
+      → call i board ≡ ruled (shape i (length board)) (λ _. board) (withBay width i (recorded (segmentOf mark s n size i) (bayOf width board i)) board)
+  unfolding segmentBoard segmentRows
+  call-by i board = left-by RecordTooLong (callRows s n (segmentFits size width n i (length board))) _ board _ (plain-call s n _ .0)
+
   -- every call is a run of stores into its bay
   call-stores : (i : ℕ) (board : List ℕ) → call i board ≡ sets board (i * width) (stores i board)
-  unfolding segmentBoard withBay storing
+  unfolding withBay storing
   call-stores i board =
-      by-verdict (verdict i (length board))
+      call-by i board
+      ∙ by-verdict (shape i (length board))
       (λ v. let all = stores-all i board v in
       let fits : i * width + length (stores i board) ≤ length board = rw all (inside i board v) in
-      rw (v, segmentBoard) (rw (← stores-record i board v)
+      rw v (rw (← stores-record i board v)
       (sym (sets-eq (stores i board) board (i * width) fits ∙ append-assoc (take (i * width) board) (stores i board) _ ∙ rw all))))
-      (λ why v. rw (v, segmentBoard))
+      (λ why v. rw v)
 
   stores-short : (i : ℕ) (board : List ℕ) → length (stores i board) ≤ width
   unfolding storing
-  stores-short i board = by-verdict (verdict i (length board)) (λ v. omega (arith, stores-all i board v)) (λ why v. rw v (omega arith))
+  stores-short i board = by-verdict (shape i (length board)) (λ v. omega (arith, stores-all i board v)) (λ why v. rw v (omega arith))
 
   length-call : (i : ℕ) (board : List ℕ) → length (call i board) ≡ length board
   length-call i board = ap length (call-stores i board) ∙ length-sets board (i * width) (stores i board)
 
   -- a call that is not refused leaves the record in its own bay
-  pub own-written : (i : ℕ) (board : List ℕ) → judged s n (segmentFits size width n i (length board)) ≡ Granted
+  pub own-written : (i : ℕ) (board : List ℕ) → verdict (callRows s n (segmentFits size width n i (length board))) ≡ Fine
       → (bayOf width (segmentBoard mark s n size i width board) i ≡ recorded (segmentOf mark s n size i) (bayOf width board i))
       × (length (bayOf width board i) ≡ width)
   own-written i board v =
@@ -144,26 +154,26 @@ module _ (mark : ℕ → Bool) (s : Settings) (n size width : ℕ) where
 
   -- a segment whose record fits its bay, on boards that are not refused
   module _ (i : ℕ) (fits : recordFits (segmentOf mark s n size i) width ≡ true) where
-    wrote-holds : (board : List ℕ) → verdict i (length board) ≡ Granted → Holds (bayOf width (call i board) i) (segmentOf mark s n size i)
+    wrote-holds : (board : List ℕ) → shape i (length board) ≡ Fine → Holds (bayOf width (call i board) i) (segmentOf mark s n size i)
     wrote-holds board v =
         let own = own-written i board v in
         rw (own .0)
         (recorded-holds (segmentOf mark s n size i) (bayOf width board i) (ap (recordFits (segmentOf mark s n size i)) (own .1) ∙ fits))
 
     -- once recorded, a bay holds its record whatever calls follow
-    still-held : (calls board : List ℕ) → verdict i (length board) ≡ Granted → Holds (bayOf width board i) (segmentOf mark s n size i)
+    still-held : (calls board : List ℕ) → shape i (length board) ≡ Fine → Holds (bayOf width board i) (segmentOf mark s n size i)
         → Holds (bayOf width (recordAll mark s n size width calls board) i) (segmentOf mark s n size i)
     unfolding recordAll
     still-held [] board v h = h
     still-held (j ∷ calls) board v h =
-        still-held calls (call j board) (ap (verdict i) (length-call j board) ∙ v)
+        still-held calls (call j board) (ap (shape i) (length-call j board) ∙ v)
         (by-same j i
         (λ e. rw e (wrote-holds board v))
         (λ other. rw (other-kept j i board other) h))
 
-    pub then-held : (calls board : List ℕ) → verdict i (length board) ≡ Granted → List·Memᴰ i calls
+    pub then-held : (calls board : List ℕ) → shape i (length board) ≡ Fine → List·Memᴰ i calls
         → Holds (bayOf width (recordAll mark s n size width calls board) i) (segmentOf mark s n size i)
     unfolding recordAll
     then-held (j ∷ calls) board v (List·Memᴰ·head e) =
-        still-held calls (call j board) (ap (verdict i) (length-call j board) ∙ v) (rw (sym e) (wrote-holds board v))
-    then-held (j ∷ calls) board v (List·Memᴰ·tail m) = then-held calls (call j board) (ap (verdict i) (length-call j board) ∙ v) m
+        still-held calls (call j board) (ap (shape i) (length-call j board) ∙ v) (rw (sym e) (wrote-holds board v))
+    then-held (j ∷ calls) board v (List·Memᴰ·tail m) = then-held calls (call j board) (ap (shape i) (length-call j board) ∙ v) m

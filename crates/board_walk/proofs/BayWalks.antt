@@ -11,16 +11,17 @@ use Rattle.rule.specs.Rule.{lastOr, closing}
 use Rattle.rule.proofs.Hops.{still-open, already}
 use Rattle.cutting.specs.WholeLog.{writtenList}
 use Rattle.terms.specs.declared.Settings.{Settings}
-use Rattle.board_bays.specs.declared.Verdict.the-variants.{Granted}
+use Rattle.terms.specs.declared.Verdict.the-variants.{Fine}
+use Rattle.terms.specs.Rows.{verdict}
 use Rattle.lists.specs.declared.Made.{Made}
 use Rattle.board_bays.specs.Segments.{segments, segmentStart, segmentEnd}
 use Rattle.board_bays.specs.Bays.{Record, bayOf, isDone, offsetCount, recordIn, risesWithin}
 use Rattle.board_walk.specs.Walk.{forcedUpTo, readAsMarks, bayCuts, baysCuts, lastCuts, walk, boardWalk}
 use Rattle.lists.specs.Puts.{Puts}
-use Rattle.board_bays.specs.Judging.{baysJudged}
+use Rattle.board_bays.specs.Judging.{baysRows}
 use Rattle.board_bays.proofs.Ranges.{length-bay, reach, from-reach, to-reach, spans}
 use Rattle.board_walk.proofs.Rises.{rises-wider}
-use Rattle.board_bays.proofs.Verdicts.{Judged, each-granted}
+use Rattle.board_bays.proofs.Verdicts.{Judged, each-done}
 use Rattle.lists.proofs.Putting.{puts-are, Underway, begin, more, one-more, ended, rest-is, all-made}
 use Rattle.laws.proofs.Sets.{sets-written}
 use Rattle.board_walk.proofs.Lasts.{bay-last}
@@ -55,9 +56,9 @@ module _ (hi n : ℕ) (before forced : Made) (list₀ list : List ℕ) (ordered 
 
 -- all bays of a board that was judged
 module _ (s : Settings) (n size width : ℕ) (board : List ℕ) (sized : 0 < size) (positive : 1 ≤ s .maximum) (short : n ≤ 2 ^ 40)
-    (fine : baysJudged s size width n board (segments size n) 0 ≡ Granted) where
+    (fine : verdict (baysRows s size width n board (segments size n) 0) ≡ Fine) where
   judged-bay : (i : ℕ) → i < segments size n → Judged s size n i (bayOf width board i)
-  judged-bay i h = subst (λ j. Judged s size n j (bayOf width board j)) (zero-add i) (each-granted s size width n board (segments size n) 0 i h fine)
+  judged-bay i h = subst (λ j. Judged s size n j (bayOf width board j)) (zero-add i) (each-done s size width n board (segments size n) 0 i h fine)
 
   from-cut : (i c : ℕ) → i < segments size n → c ≤ reach size n i
       → risesWithin c (segmentEnd size n i) (recordIn (bayOf width board i) .offsets) ≡ true

@@ -4,12 +4,13 @@ ghost use mathlib.Core.Bool.{true};
 ghost use Prim.Native.Nat.{_-_, _≤_, _^_};
 ghost use lib.ListN.{length};
 ghost use Rattle.terms.specs.Settings.{inRange};
-ghost use Rattle.board_bays.specs.declared.Verdict.the-variants.{Granted};
+ghost use Rattle.terms.specs.Rows.{verdict};
+ghost use Rattle.terms.specs.declared.Verdict.the-variants.{Fine};
 ghost use Rattle.board_bays.specs.Segments.{segments, boardFits};
 ghost use Rattle.board_bays.specs.Bays.{bayOf, recordIn, offsetCount, isDone, risesWithin};
 ghost use Rattle.board_walk.specs.Walk.{bayCuts, baysCuts, lastCuts, boardWalk};
 ghost use Rattle.lists.specs.Puts.{Puts};
-ghost use Rattle.board_bays.specs.Judging.{baysJudged};
+ghost use Rattle.board_bays.specs.Judging.{baysRows};
 ghost use Rattle.cutting.specs.WholeLog.{writtenList};
 use lists::Made;
 use terms::Settings;
@@ -40,7 +41,7 @@ fn walk_bays(
     board: &[u64],
 ) -> Made
     requires { ⌜ (inRange settings ≡ true) × (n ≤ 2 ^ 40) × (boardFits size width n (length (now board)) ≡ true) ⌝ }
-    requires { ⌜ baysJudged settings size width n (now board) (segments size n) 0 ≡ Granted ⌝ }
+    requires { ⌜ verdict (baysRows settings size width n (now board) (segments size n) 0) ≡ Fine ⌝ }
     ensures { λ r. ⌜ Puts (baysCuts (settings .minimum) (settings .maximum) (λ i. recordIn (bayOf width (now (board .entry)) i)) (segments size n) 0 0) (record { count = 0; cut = 0 }) r (now (list .entry)) (now (list .exit)) ⌝ }
     ensures { λ r. ⌜ r .cut ≤ n ⌝ }
 {
@@ -83,7 +84,7 @@ pub fn walk_board(
     board: &[u64],
 ) -> u64
     requires { ⌜ (inRange settings ≡ true) × (n ≤ 2 ^ 40) × (boardFits size width n (length (now board)) ≡ true) ⌝ }
-    requires { ⌜ baysJudged settings size width n (now board) (segments size n) 0 ≡ Granted ⌝ }
+    requires { ⌜ verdict (baysRows settings size width n (now board) (segments size n) 0) ≡ Fine ⌝ }
     ensures { λ r. ⌜ r ≡ length (boardWalk settings n size width (now (board .entry))) ⌝ }
     ensures { λ r. ⌜ now (list .exit) ≡ writtenList (boardWalk settings n size width (now (board .entry))) (now (list .entry)) ⌝ }
 {

@@ -1,7 +1,8 @@
 -- What cutting a whole log answers, and what it leaves in the lent list: document 01, "Numbers answered".
 use Prim.Native.Nat.{ℕ}
-use mathlib.Core.List.{List}
-use lib.Dec.{leb}
+use mathlib.Core.Bool.{not}
+use mathlib.Core.List.{List, [], _∷_}
+use lib.Dec.{ltb}
 use lib.ListN.{length, take}
 use Rattle.laws.specs.Over.{over}
 use Rattle.terms.specs.declared.Settings.{Settings}
@@ -9,28 +10,32 @@ use Rattle.terms.specs.declared.Answer.{Answer}
 use Rattle.terms.specs.declared.Answer.the-variants.{Wrote, Refused}
 use Rattle.terms.specs.declared.Refusal.the-variants.{SettingsOutOfRange, LogTooLong, RoomTooShort, ListFull}
 use Rattle.terms.specs.Settings.{inRange}
-use Rattle.terms.specs.Answers.{longest, roomFor, unless}
+use Rattle.terms.specs.Answers.{longest, roomFor}
+use Rattle.terms.specs.Rows.{Row, row, verdict, ruled, leaves}
 use Rattle.cutting.specs.Marks.{cutList}
+
+-- the guard: a list with so many places is too short for the cuts
+abbrev pub guard : List ℕ → ℕ → Row
+guard cuts room = row ListFull (ltb room (length cuts))
 
 -- writing cuts into a list with so many places: all of them, or as many as there are places and then the guard
 unfoldable pub writtenAnswer : List ℕ → ℕ → Answer
-writtenAnswer cuts room = unless (leb (length cuts) room) (Refused ListFull) (Wrote (length cuts))
+writtenAnswer cuts room = ruled (verdict (guard cuts room ∷ [])) Refused (Wrote (length cuts))
 
 unfoldable pub writtenList : List ℕ → List ℕ → List ℕ
 writtenList cuts list = over (take (length list) cuts) list
 
--- settings, length and room are judged in this order
-unfoldable pub cutLogAnswer : Settings → List ℕ → ℕ → Answer
-cutLogAnswer s log room =
-    unless (inRange s) (Refused SettingsOutOfRange)
-    (unless (leb (length log) longest) (Refused LogTooLong)
-    (unless (leb (roomFor (s .minimum) (length log)) room) (Refused RoomTooShort)
-    (writtenAnswer (cutList s log) room)))
+-- 1, 2, 5, and the guard
+unfoldable pub cutLogRows : Settings → List ℕ → ℕ → List Row
+cutLogRows s log room =
+    row SettingsOutOfRange (not (inRange s))
+    ∷ row LogTooLong (ltb longest (length log))
+    ∷ row RoomTooShort (ltb room (roomFor (s .minimum) (length log)))
+    ∷ guard (cutList s log) room
+    ∷ []
 
--- where one of these is refused, the list stays as it was
+unfoldable pub cutLogAnswer : Settings → List ℕ → ℕ → Answer
+cutLogAnswer s log room = ruled (verdict (cutLogRows s log room)) Refused (Wrote (length (cutList s log)))
+
 unfoldable pub cutLogList : Settings → List ℕ → List ℕ → List ℕ
-cutLogList s log list =
-    unless (inRange s) list
-    (unless (leb (length log) longest) list
-    (unless (leb (roomFor (s .minimum) (length log)) (length list)) list
-    (writtenList (cutList s log) list)))
+cutLogList s log list = leaves (verdict (cutLogRows s log (length list))) ListFull list (writtenList (cutList s log) list)

@@ -18,8 +18,9 @@ use Rattle.terms.specs.Answers.{answerNumber}
 use Rattle.board_bays.specs.Segments.{sizeInRange, segments, segmentStart, segmentEnd, shapeFits, boardFits, segmentFits}
 use Rattle.board_bays.specs.Bays.{entries, bayOf}
 use Rattle.board_record.specs.Records.{marksAmong, marksIn, isMarker, prepend, recordAfter, slowRecord, segmentRecord}
-use Rattle.board_bays.specs.Judging.{judged}
-use Rattle.board.specs.Recording.{recordFits, recordAnswer, recorded, withBay, segmentAnswer, segmentBoard}
+use Rattle.board_bays.specs.Judging.{callRows}
+use Rattle.terms.specs.Rows.{verdict}
+use Rattle.board.specs.Recording.{recordFits, recorded, withBay, segmentRows, segmentAnswer, segmentBoard}
 use Rattle.promises.specs.Figures.{Figure, power, cuts, segment, Holds, starred, Each, none, and-each, logA, logC}
 
 sameLists : List ℕ → List ℕ → Bool
@@ -61,7 +62,7 @@ each [] e = none
 each (f ∷ fs) e = let both = both-true e in and-each (told f (both .0)) (each fs (both .1))
 
 passed : testAll starred ≡ true
-unfolding testAll test sameLists starred logA logC cutsFrom chain next firstMark mark matches signatureOf signature numberOfBytes rem divide foldDigits answerNumber segmentAnswer segmentBoard recordAnswer recordFits recorded withBay bayOf judged inRange sizeInRange segments segmentStart segmentEnd shapeFits boardFits segmentFits entries marksAmong marksIn isMarker prepend recordAfter slowRecord segmentRecord hop hops cutsUpTo over
+unfolding testAll test sameLists starred logA logC cutsFrom chain next firstMark mark matches signatureOf signature numberOfBytes rem divide foldDigits answerNumber segmentAnswer segmentBoard recordFits recorded withBay bayOf callRows segmentRows verdict inRange sizeInRange segments segmentStart segmentEnd shapeFits boardFits segmentFits entries marksAmong marksIn isMarker prepend recordAfter slowRecord segmentRecord hop hops cutsUpTo over
 passed = refl
 
 pub figures : Each starred

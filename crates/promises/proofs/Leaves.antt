@@ -15,9 +15,6 @@ use Rattle.terms.specs.Settings.{inRange}
 use Rattle.terms.specs.Answers.{answerNumber, unless, longest, roomFor}
 use Rattle.terms.specs.declared.Refusal.{Refusal}
 use Rattle.terms.specs.declared.Refusal.the-variants.{SettingsOutOfRange, LogTooLong, CarryNotInOrder, CarryClosed, RoomTooShort, ListFull}
-use Rattle.lists.specs.WellFormed.{wellFormed, lengthOf}
-use Rattle.cutting.specs.Marks.{cutList}
-use Rattle.cutting.specs.WholeLog.{cutLogAnswer, cutLogList, writtenAnswer}
 use Rattle.pass_carry.specs.declared.Carry.{Carry}
 use Rattle.pass_carry.specs.declared.Outcome.{Outcome}
 use Rattle.pass_carry.specs.Carries.{inOrder, cutsIn}
@@ -26,23 +23,11 @@ use Rattle.pass_block.specs.Taking.{takenOf}
 use Rattle.pass.specs.Calls.{noCarry, freshOf, blockOf, blockList, closeOf, closeList, closingCut}
 use Rattle.promises.specs.Leaves.{Leaves, HandsBack}
 use Rattle.promises.proofs.Unless.{passNumber, row-leaves, guard-leaves}
-use Rattle.amending.specs.declared.edits.Edit.{Edit}
-use Rattle.amending.specs.Parts.{amendedList}
-use Rattle.amending.specs.Answers.{amendmentNumber, newCutsOf, editFits, partsAnswer, judged, amendAnswer, amendList}
 use Rattle.sheet.specs.declared.Sheet.{Sheet}
 use Rattle.sheet.specs.declared.Sheet.the-variants as sheet
 use Rattle.sheet.specs.Write.{writeAnswer, bytesAfter}
 use Rattle.sheet.specs.Read.{readAnswer, listAfter}
 use Rattle.sheet.specs.Answers.{sheetNumber}
-
-pub whole-log-leaves : (s : Settings) (log list : List ℕ)
-    → Leaves (answerNumber (cutLogAnswer s log (length list))) list (cutLogList s log list) (cutList s log)
-unfolding cutLogAnswer cutLogList writtenAnswer answerNumber
-whole-log-leaves s log list =
-    row-leaves answerNumber (inRange s) (omega arith)
-    (row-leaves answerNumber (leb (length log) longest) (omega arith)
-    (row-leaves answerNumber (leb (roomFor (s .minimum) (length log)) (length list)) (omega arith)
-    (guard-leaves answerNumber (leb (length (cutList s log)) (length list)) (cutList s log) list refl refl)))
 
 -- a refused fresh hands out a carry with every part 0
 pub fresh-leaves : (s : Settings) → (answerNumber (freshOf s .answer) ≡ 0 → ⊥) → freshOf s .carry ≡ noCarry
@@ -90,19 +75,6 @@ close-leaves c list =
     (row-leaves passNumber (not (c .closed)) (omega arith)
     (row-leaves passNumber (leb 1 (length list)) (omega arith)
     (record { untouched = λ refusal guard. absurd (refusal refl); guarded = λ guard. absurd (omega arith) }))))
-
-pub amend-leaves : (s : Settings) (old : List ℕ) (edit : Edit) (log list : List ℕ)
-    → Leaves (amendmentNumber (amendAnswer s old edit log (length list))) list (amendList s old edit log list)
-    (amendedList (newCutsOf s log) old edit)
-unfolding amendAnswer amendList judged partsAnswer amendmentNumber
-amend-leaves s old edit log list =
-    let cuts = amendedList (newCutsOf s log) old edit in
-    row-leaves amendmentNumber (inRange s) (omega arith)
-    (row-leaves amendmentNumber (wellFormed (s .minimum) (s .maximum) old) (omega arith)
-    (row-leaves amendmentNumber (editFits (lengthOf old) edit (length log)) (omega arith)
-    (row-leaves amendmentNumber (leb (length log) longest) (omega arith)
-    (row-leaves amendmentNumber (leb (roomFor (s .minimum) (length log)) (length list)) (omega arith)
-    (guard-leaves amendmentNumber (leb (length cuts) (length list)) cuts list refl refl)))))
 
 pub write-sheet-leaves : (s : Settings) (label : Label) (list bytes : List ℕ) → (answerNumber (writeAnswer s list (length bytes)) ≡ 0 → ⊥)
     → bytesAfter s label list bytes ≡ bytes

@@ -4,15 +4,14 @@ use mathlib.Core.Path.{_≡_, refl, sym, ap, _∙_}
 use mathlib.Core.Bool.{true}
 use mathlib.Core.Logic.{_↔_}
 use mathlib.Core.List.{List}
-use lib.Dec.{leb, lit<}
+use lib.Dec.{lit<}
 use lib.ListN.{length}
-use borrow.Author.Tests.{leb-true, eqb-true, le-leb, eq-eqb}
+use borrow.Author.Tests.{leb-true, ltb-false, eqb-true, le-leb, eq-eqb}
 use Rattle.laws.proofs.Cases.{both-true}
 use Rattle.terms.specs.declared.Settings.{Settings}
 use Rattle.terms.specs.declared.Answer.the-variants.{Wrote}
-use Rattle.terms.specs.declared.Refusal.the-variants.{SettingsOutOfRange, LogTooLong, RoomTooShort}
 use Rattle.terms.specs.Settings.{inRange}
-use Rattle.terms.specs.Answers.{longest, roomFor}
+use Rattle.terms.specs.Answers.{longest}
 use Rattle.signature.specs.Polynomials.{rem}
 use Rattle.signature.specs.Signatures.{number, window, signature, signatureOf, degree, lowPart}
 use Rattle.signature.proofs.Remainders.{rem-exactly}
@@ -20,9 +19,10 @@ use Rattle.cutting.specs.Marks.{mark, matches, cutList}
 use Rattle.pass.specs.SinglePass.{Lent, joined, Roomy, writtenBy}
 use Rattle.pass.proofs.SinglePass as pass
 use Rattle.promises.specs.OneList.{Marked, Lists}
-use Rattle.terms.proofs.Rows.{past-row}
-use Rattle.promises.proofs.Unless.{wrote-all}
-use Rattle.cutting.specs.WholeLog.{cutLogAnswer, cutLogList}
+use Rattle.terms.specs.Rows.{verdict}
+use Rattle.terms.proofs.Verdicts.{clear}
+use Rattle.promises.proofs.Successes.{wrote-all}
+use Rattle.cutting.specs.WholeLog.{cutLogRows, cutLogAnswer, cutLogList}
 
 told-of-mark : (s : Settings) (log : List ℕ) (p : ℕ) → mark s log p ≡ true → Marked s log p
 unfolding mark matches signatureOf signature
@@ -52,12 +52,10 @@ pub marks : (s : Settings) (log : List ℕ) (p : ℕ) → mark s log p ≡ true 
 marks s log p = (told-of-mark s log p, mark-as-told s log p)
 
 pub whole-log : (s : Settings) (log list : List ℕ) (k : ℕ) → cutLogAnswer s log (length list) ≡ Wrote k → Lists list (cutLogList s log list) (cutList s log) k
-unfolding cutLogAnswer cutLogList
+unfolding cutLogAnswer cutLogList cutLogRows
 whole-log s log list k e =
-    let range = past-row (inRange s) SettingsOutOfRange _ e in
-    let short = past-row (leb (length log) longest) LogTooLong _ (range .1) in
-    let room = past-row (leb (roomFor (s .minimum) (length log)) (length list)) RoomTooShort _ (short .1) in
-    rw (range .0, short .0, room .0) (wrote-all (cutList s log) list k (room .1))
+    wrote-all (verdict (cutLogRows s log (length list))) (cutList s log) list e
+    (λ v. ltb-false _ _ (clear _ _ _ (clear _ _ _ (clear _ _ _ (clear _ _ _ v .1) .1) .1) .0))
 
 -- fresh, the blocks in turn and close write, joined, the cuts of the joined log, for any blocks
 pub single-pass : (s : Settings) (calls : List Lent) (last : List ℕ) → inRange s ≡ true → length (joined calls) ≤ longest

@@ -9,31 +9,18 @@ use Rattle.terms.specs.declared.Label.{Label}
 use Rattle.terms.specs.Labels.{byteOf}
 use Rattle.terms.specs.Settings.{inRange}
 use Rattle.terms.specs.Answers.{answerNumber, longest, roomFor}
-use Rattle.cutting.specs.Marks.{cutList}
-use Rattle.cutting.specs.WholeLog.{cutLogAnswer, writtenAnswer}
-use Rattle.lists.specs.WellFormed.{wellFormed, lengthOf}
+use Rattle.lists.specs.WellFormed.{wellFormed}
 use Rattle.pass_carry.specs.declared.Carry.{Carry}
 use Rattle.pass_carry.specs.Carries.{inOrder, cutsIn}
 use Rattle.pass_block.specs.Taking.{takenOf}
 use Rattle.pass.specs.Calls.{freshOf, blockOf, closeOf}
-use Rattle.amending.specs.declared.edits.Edit.{Edit}
-use Rattle.amending.specs.Parts.{amendedList}
-use Rattle.amending.specs.Answers.{amendmentNumber, newCutsOf, editFits, partsAnswer, judged, amendAnswer}
 use Rattle.sheet.specs.Trailer.{mostCuts, trailerRight}
 use Rattle.sheet.specs.Sheets.{checked}
 use Rattle.sheet.specs.Write.{writeAnswer}
 use Rattle.sheet.specs.Read.{hasTrailer, hasList, trailerOf, sheetIn, readAnswer}
 use Rattle.sheet.specs.Answers.{sheetNumber}
 use Rattle.promises.proofs.Unless.{passNumber, unless-not, unless-at-most, unless-open}
-use Rattle.promises.specs.Rows.{firstRow, wholeLogRows, freshRows, blockRows, closeRows, amendRows, writeSheetRows, readSheetRows}
-
-pub whole-log-rows : (s : Settings) (log : List ℕ) (room : ℕ) → answerNumber (cutLogAnswer s log room) ≡ firstRow (wholeLogRows s log room)
-unfolding answerNumber cutLogAnswer writtenAnswer wholeLogRows firstRow
-whole-log-rows s log room =
-    unless-not answerNumber (inRange s) refl
-    (unless-at-most answerNumber (length log) longest refl
-    (unless-at-most answerNumber (roomFor (s .minimum) (length log)) room refl
-    (unless-at-most answerNumber (length (cutList s log)) room refl refl)))
+use Rattle.promises.specs.Rows.{firstRow, freshRows, blockRows, closeRows, writeSheetRows, readSheetRows}
 
 pub fresh-rows : (s : Settings) → answerNumber (freshOf s .answer) ≡ firstRow (freshRows s)
 unfolding passNumber answerNumber freshOf freshRows firstRow
@@ -56,17 +43,6 @@ close-rows c room =
     (unless-not passNumber (inOrder c) refl
     (unless-open passNumber (c .closed) refl
     (unless-at-most passNumber 1 room refl refl)))
-
-pub amend-rows : (s : Settings) (old : List ℕ) (edit : Edit) (log : List ℕ) (room : ℕ)
-    → amendmentNumber (amendAnswer s old edit log room) ≡ firstRow (amendRows s old edit log room)
-unfolding amendmentNumber amendAnswer judged partsAnswer amendRows firstRow
-amend-rows s old edit log room =
-    unless-not amendmentNumber (inRange s) refl
-    (unless-not amendmentNumber (wellFormed (s .minimum) (s .maximum) old) refl
-    (unless-not amendmentNumber (editFits (lengthOf old) edit (length log)) refl
-    (unless-at-most amendmentNumber (length log) longest refl
-    (unless-at-most amendmentNumber (roomFor (s .minimum) (length log)) room refl
-    (unless-at-most amendmentNumber (length (amendedList (newCutsOf s log) old edit)) room refl refl)))))
 
 pub write-sheet-rows : (s : Settings) (list : List ℕ) (room : ℕ) → answerNumber (writeAnswer s list room) ≡ firstRow (writeSheetRows s list room)
 unfolding answerNumber writeAnswer writeSheetRows firstRow

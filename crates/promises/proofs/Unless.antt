@@ -1,24 +1,17 @@
 -- One row of a definition, `unless test refused answer`: what it says of the number answered, of what is left, and of a success.
 use Prim.Native.Nat.{ℕ}
-use mathlib.Core.Path.{_≡_, refl, sym, ap, _∙_}
+use mathlib.Core.Path.{_≡_, refl, sym, _∙_}
 use mathlib.Core.Bool.{Bool, true, false, not}
 use mathlib.Core.List.{List}
 use native.Mathlib.Omega.{arith}
 use lib.Dec.{leb, ltb}
-use lib.ListN.{length}
-use lib.Seq.{take-all}
-use borrow.Author.Tests.{lt-leb, le-leb, lt-ltb, le-ltb, leb-true}
-use Rattle.laws.specs.Over.{over}
+use borrow.Author.Tests.{lt-leb, le-leb, lt-ltb, le-ltb}
 use Rattle.laws.proofs.Cases.{by-lt}
-use Rattle.terms.specs.declared.Answer.the-variants.{Wrote}
-use Rattle.terms.specs.declared.Refusal.the-variants.{ListFull}
 use Rattle.terms.specs.Answers.{answerNumber, unless}
-use Rattle.terms.proofs.Rows.{past-row}
 use Rattle.pass_carry.specs.declared.Outcome.{Outcome}
-use Rattle.cutting.specs.WholeLog.{writtenAnswer, writtenList}
+use Rattle.cutting.specs.WholeLog.{writtenList}
 use Rattle.promises.specs.Rows.{whether}
 use Rattle.promises.specs.Leaves.{Leaves}
-use Rattle.promises.specs.OneList.{Lists}
 
 -- the row that a test guards holds where the test fails
 guarded : {A : Type 0} (number : A → ℕ) {refused answer : A} {k later : ℕ} (passes holds : Bool) → holds ≡ not passes
@@ -54,15 +47,6 @@ unfolding writtenList
 guard-leaves number true cuts list full fine =
     record { untouched = λ refusal guard. absurd (refusal fine); guarded = λ guard. absurd (omega (arith, sym fine ∙ guard)) }
 guard-leaves number false cuts list full fine = record { untouched = λ refusal guard. absurd (guard full); guarded = λ guard. refl }
-
-pub wrote-all : (cuts list : List ℕ) (k : ℕ) → writtenAnswer cuts (length list) ≡ Wrote k → Lists list (writtenList cuts list) cuts k
-unfolding writtenAnswer writtenList
-wrote-all cuts list k e =
-    let all = past-row (leb (length cuts) (length list)) ListFull (Wrote (length cuts)) e in
-    record { counted = sym (same (all .1)); written = ap (λ l. over l list) (take-all (length list) cuts (leb-true _ _ (all .0))) }
-  where
-    same : {a b : ℕ} → Wrote a ≡ Wrote b → a ≡ b
-    same p = cc
 
 -- the number that a call of the single pass answers
 unfoldable pub passNumber : Outcome → ℕ

@@ -1,5 +1,5 @@
 -- The table of numbers, row by row, in the order that document 01 gives for each call.
-use Prim.Native.Nat.{ℕ, zero, suc, _+_, _-_, _*_}
+use Prim.Native.Nat.{ℕ, _+_, _-_, _*_}
 use mathlib.Core.Bool.{Bool, true, false, not}
 use mathlib.Core.List.{List, [], _∷_}
 use lib.Dec.{ltb, eqb}
@@ -9,18 +9,9 @@ use Rattle.terms.specs.declared.Label.{Label}
 use Rattle.terms.specs.Labels.{byteOf}
 use Rattle.terms.specs.Settings.{inRange}
 use Rattle.terms.specs.Answers.{longest, roomFor}
-use Rattle.lists.specs.WellFormed.{wellFormed, lengthOf}
-use Rattle.cutting.specs.Marks.{cutList}
+use Rattle.lists.specs.WellFormed.{wellFormed}
 use Rattle.pass_carry.specs.declared.Carry.{Carry}
 use Rattle.pass_carry.specs.Carries.{inOrder, cutsIn}
-use Rattle.board_bays.specs.Segments.{segments, boardFits, segmentFits}
-use Rattle.board_bays.specs.Bays.{bayOf, isDone, isSound}
-use Rattle.board_record.specs.Records.{segmentOf}
-use Rattle.board.specs.Recording.{recordFits}
-use Rattle.board_walk.specs.Walk.{boardWalk}
-use Rattle.amending.specs.declared.edits.Edit.{Edit}
-use Rattle.amending.specs.Parts.{amendedList}
-use Rattle.amending.specs.Answers.{newCutsOf, editFits}
 use Rattle.sheet.specs.Trailer.{mostCuts, trailerRight}
 use Rattle.sheet.specs.Sheets.{checked}
 use Rattle.sheet.specs.Read.{hasTrailer, hasList, trailerOf, sheetIn}
@@ -42,15 +33,6 @@ whether false number later = later
 unfoldable pub firstRow : List Row → ℕ
 firstRow [] = 0
 firstRow (r ∷ rows) = whether (r .holds) (r .number) (firstRow rows)
-
--- cutting a whole log: 1, 2, 5, and the guard
-unfoldable pub wholeLogRows : Settings → List ℕ → ℕ → List Row
-wholeLogRows s log room =
-    row 1 (not (inRange s))
-    ∷ row 2 (ltb longest (length log))
-    ∷ row 5 (ltb room (roomFor (s .minimum) (length log)))
-    ∷ row 17 (ltb room (length (cutList s log)))
-    ∷ []
 
 -- a fresh carry: 1
 unfoldable pub freshRows : Settings → List Row
@@ -74,43 +56,6 @@ closeRows c room =
     ∷ row 3 (not (inOrder c))
     ∷ row 4 (c .closed)
     ∷ row 5 (ltb room 1)
-    ∷ []
-
--- recording a segment into its bay of a board: 1, 2, 7, 6
-unfoldable pub segmentRows : (ℕ → Bool) → Settings → (n size i width numbers : ℕ) → List Row
-segmentRows mark s n size i width numbers =
-    row 1 (not (inRange s))
-    ∷ row 2 (ltb longest n)
-    ∷ row 7 (not (segmentFits size width n i numbers))
-    ∷ row 6 (not (recordFits (segmentOf mark s n size i) width))
-    ∷ []
-
--- the bays from bay i on, k of them, from the lowest: 8 before 9 in each; then the later rows
-unfoldable pub bayRows : Settings → (n size width : ℕ) → List ℕ → List Row → (k i : ℕ) → List Row
-bayRows s n size width board later zero i = later
-bayRows s n size width board later (suc k) i =
-    row 8 (not (isDone (bayOf width board i)))
-    ∷ row 9 (not (isSound (s .minimum) (s .maximum) size n i (bayOf width board i)))
-    ∷ bayRows s n size width board later k (suc i)
-
--- merging: 1, 2, 7, 5, the bays, and the guard
-unfoldable pub mergeRows : Settings → (n size width : ℕ) → List ℕ → ℕ → List Row
-mergeRows s n size width board room =
-    row 1 (not (inRange s))
-    ∷ row 2 (ltb longest n)
-    ∷ row 7 (not (boardFits size width n (length board)))
-    ∷ row 5 (ltb room (roomFor (s .minimum) n))
-    ∷ bayRows s n size width board (row 17 (ltb room (length (boardWalk s n size width board))) ∷ []) (segments size n) 0
-
--- amending: 1, 10, 11, 2, 5, and the guard
-unfoldable pub amendRows : Settings → List ℕ → Edit → List ℕ → ℕ → List Row
-amendRows s old edit log room =
-    row 1 (not (inRange s))
-    ∷ row 10 (not (wellFormed (s .minimum) (s .maximum) old))
-    ∷ row 11 (not (editFits (lengthOf old) edit (length log)))
-    ∷ row 2 (ltb longest (length log))
-    ∷ row 5 (ltb room (roomFor (s .minimum) (length log)))
-    ∷ row 17 (ltb room (length (amendedList (newCutsOf s log) old edit)))
     ∷ []
 
 -- writing a sheet: 1, 10, 16, 5

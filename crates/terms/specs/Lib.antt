@@ -2,3 +2,4 @@ pub mod Settings
 pub mod Refusals
 pub mod Labels
 pub mod Answers
+pub mod Rows

@@ -54,6 +54,12 @@ pub enum Answer {
     Refused(Refusal),
 }
 
+// What judging a call's rows comes to, before anything is written.
+pub enum Verdict {
+    Fine,
+    Wrong(Refusal),
+}
+
 // A log has at most this many bytes.
 pub const LONGEST: u64 = 1_099_511_627_776;
 

@@ -1,47 +1,50 @@
--- `cutting::whole::cut_log` meets its contract: each `return` stands at its row of the definitions, the tests above it passed.
+-- `cutting::whole::cut_log` meets its contract: each `return` stands at its row of the table, the tests above it passed.
+use mathlib.Core.Path.{_≡_, refl}
+use mathlib.Core.Bool.{false, not}
 use native.Mathlib.Nat.{div-le-self}
 use native.Mathlib.Omega.{arith}
 use borrow.Author.Needs.{needs}
-use borrow.Author.Tests.{le-leb, lt-leb}
+use borrow.Author.Tests.{le-ltb, lt-ltb, not-false}
 use lib.ListN.{length}
-use Rattle.laws.proofs.Cases.{test-passed, test-failed}
+use Rattle.terms.specs.declared.Answer.the-variants.{Refused}
+use Rattle.terms.specs.declared.Refusal.the-variants.{ListFull}
+use Rattle.terms.specs.Settings.{inRange}
 use Rattle.terms.proofs.Ranges.{ranges}
-use Rattle.cutting.specs.WholeLog.{cutLogAnswer, cutLogList}
+use Rattle.terms.proofs.Verdicts.{asked, top, past, stopped, wrote}
+use Rattle.cutting.specs.WholeLog.{cutLogAnswer, cutLogList, cutLogRows, writtenAnswer}
 use Rattle.cutting.proofs.whole.cut_log.Statement.{statement}
 use Rattle.cutting.proofs.whole.cut_log.Tie as tie
 
+settings-fine : (c : tie.Else1) → not (inRange (c .before .before .before .before .args .settings)) ≡ false
+settings-fine c = asked (c .before .in-range .ensures) (c .if1 .left)
+
 returns : tie.Need-returns
-unfolding cutLogAnswer cutLogList
-returns c = let bad = test-failed (c .before .in-range .ensures) (c .if1 .taken) in (rw bad, rw bad)
+unfolding cutLogAnswer cutLogList cutLogRows
+returns c = stopped ListFull Refused _ _ _ top (asked (c .before .in-range .ensures) (c .if1 .taken)) refl
 
 returns-2 : tie.Need-returns-2
-unfolding cutLogAnswer cutLogList
-returns-2 c =
-    let fine = test-passed (c .before .before .in-range .ensures) (c .before .if1 .left) in
-    (rw (fine, lt-leb _ _ (c .if2 .taken)), rw (fine, lt-leb _ _ (c .if2 .taken)))
+unfolding cutLogAnswer cutLogList cutLogRows
+returns-2 c = stopped ListFull Refused _ _ _ (past (settings-fine (c .before)) top) (lt-ltb _ _ (c .if2 .taken)) refl
 
 div-if3 : tie.Need-div-if3
-div-if3 c = omega (arith, ranges _ (test-passed (c .before .before .in-range .ensures) (c .before .if1 .left)) .window-fits)
+div-if3 c = omega (arith, ranges _ (not-false _ (settings-fine (c .before))) .window-fits)
 
 add-if3 : tie.Need-add-if3
 add-if3 c = omega (arith, div-le-self (length (c .before .before .before .before .before .args .log .now)) (c .before .before .before .before .before .args .settings .minimum), c .if2 .left)
 
 returns-3 : tie.Need-returns-3
-unfolding cutLogAnswer cutLogList
-returns-3 c =
-    let fine = test-passed (c .before .before .before .in-range .ensures) (c .before .before .if1 .left) in
-    (rw (fine, le-leb _ _ (c .before .if2 .left), lt-leb _ _ (c .if3 .taken)), rw (fine, le-leb _ _ (c .before .if2 .left), lt-leb _ _ (c .if3 .taken)))
+unfolding cutLogAnswer cutLogList cutLogRows
+returns-3 c = stopped ListFull Refused _ _ _ (past (settings-fine (c .before .before)) (past (le-ltb _ _ (c .before .if2 .left)) top)) (lt-ltb _ _ (c .if3 .taken)) refl
 
 write-cuts-requires : tie.Need-write-cuts-requires
-write-cuts-requires c κs = test-passed (c .before .before .before .before .in-range .ensures) (c .before .before .before .if1 .left)
+write-cuts-requires c κs = not-false _ (settings-fine (c .before .before .before))
 
 returns-4 : tie.Need-returns-4
-unfolding cutLogAnswer cutLogList
+unfolding cutLogAnswer cutLogList cutLogRows writtenAnswer
 returns-4 c =
-    let fine = test-passed (c .before .before .before .before .before .before .before .in-range .ensures) (c .before .before .before .before .before .before .if1 .left) in
-    let short = le-leb _ _ (c .before .before .before .before .before .if2 .left) in
-    let room = le-leb _ _ (c .before .before .before .before .if3 .left) in
-    (rw (fine, short, room) (c .before .before .write-cuts .ensures .0), rw (fine, short, room) (c .before .before .write-cuts .ensures .1))
+    wrote ListFull Refused _ _ _
+    (past (settings-fine (c .before .before .before .before .before .before)) (past (le-ltb _ _ (c .before .before .before .before .before .if2 .left)) (past (le-ltb _ _ (c .before .before .before .before .if3 .left)) top)))
+    (c .before .before .write-cuts .ensures .0) (c .before .before .write-cuts .ensures .1)
 
 pub cut-log-spec : {M : Type 1} → statement M
 cut-log-spec =
