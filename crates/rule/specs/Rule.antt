@@ -58,3 +58,9 @@ cutsUpTo mark minimum maximum e c = hops (hop mark minimum maximum) e (e - c) c
 -- the log's end, where the last cut m before it is not the end already
 unfoldable pub closing : ℕ → ℕ → List ℕ
 closing n m = elim (ltb m n) [ true ↦ n ∷ [] | false ↦ [] ]
+
+-- document 01's rule as a statement of a list: after a cut c below n comes the next cut; nothing comes after n
+pub data OnePass (mark : ℕ → Bool) (minimum maximum n : ℕ) : ℕ → List ℕ → Type 0 where
+  at-end : OnePass mark minimum maximum n n []
+  piece : {c r : ℕ} {later : List ℕ} → c < n → NextCut mark minimum maximum n c r → OnePass mark minimum maximum n r later
+      → OnePass mark minimum maximum n c (r ∷ later)

@@ -1,6 +1,6 @@
 -- The signature of a run of bytes, and how it rolls: document 01, "Signature and marks".
 use Prim.Native.Nat.{ℕ, _*_, _^_}
-use mathlib.Core.List.{List}
+use mathlib.Core.List.{List, [], _∷_}
 use lib.Bits.{bitXor}
 use lib.ListN.{take, drop}
 unfoldable pub use Rattle.laws.specs.Bytes.{number}
@@ -44,3 +44,7 @@ leavingTable = tabulate (λ b. rem degree lowPart (b * 2 ^ (8 * span))) 0 256
 -- for each byte, that byte times x^31 reduced: what the shift pushes out
 unfoldable pub pushedTable : List ℕ
 pushedTable = tabulate (λ b. rem degree lowPart (b * 2 ^ degree)) 0 256
+
+-- the two as they are lent: what leaves, and what is pushed out
+unfoldable pub signatureTables : List (List ℕ)
+signatureTables = leavingTable ∷ pushedTable ∷ []

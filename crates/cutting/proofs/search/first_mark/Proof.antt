@@ -11,7 +11,7 @@ sub-of-window : tie.Need-sub-of-window
 sub-of-window c = omega (arith, c .before .before .pre)
 
 of-window-requires : tie.Need-of-window-requires
-of-window-requires c κs = (omega (arith, c .before .before .pre), c .before .before .pre .1 .1 .1)
+of-window-requires c κs = (omega (arith, c .before .before .pre), c .before .before .pre .1 .1)
 
 seek-requires : tie.Need-seek-requires
 seek-requires c κs = (c .before .before .before .pre .0, ((c .before .before .before .pre .1 .0 .0, c .before .if1 .left, c .before .before .before .pre .1 .0 .1, c .of-window .ensures), c .before .before .before .pre .1 .1))

@@ -15,7 +15,7 @@ smaller-requires : tie.Need-smaller-requires
 smaller-requires c κs = tt
 
 first-mark-requires : tie.Need-first-mark-requires
-first-mark-requires c κs = (c .before .before .pre .0, ((omega (arith, ranges _ (c .before .before .pre .0) .window-fits), omega (arith, c .smaller .ensures)), c .before .before .pre .1 .1))
+first-mark-requires c κs = (ranges _ (c .before .before .pre .0) .few-bits, ((omega (arith, ranges _ (c .before .before .pre .0) .window-fits), omega (arith, c .smaller .ensures)), c .before .before .pre .1 .1))
 
 returns : tie.Need-returns
 returns c = searched _ _ _ _ _ (c .before .smaller .ensures) (c .first-mark .ensures)

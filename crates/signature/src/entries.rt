@@ -1,5 +1,4 @@
-// The two tables of the signature. Whoever rolls over many bytes takes them once, into locals, and lends them: each use of a
-// constant table copies it.
+// The entries of the signature's two tables.
 ghost use mathlib.Core.Path.{_≡_};
 ghost use Rattle.signature.specs.Signatures.{leavingTable, pushedTable};
 

@@ -1,4 +1,4 @@
--- `cutting::whole::cut_log` meets its contract: each `return` stands at its row of the table, the tests above it passed.
+-- `cutting::cut_log` meets its contract: each `return` stands at its row of the table, the tests above it passed.
 use mathlib.Core.Path.{_≡_, refl}
 use mathlib.Core.Bool.{false, not}
 use native.Mathlib.Nat.{div-le-self}
@@ -11,19 +11,20 @@ use Rattle.terms.specs.declared.Refusal.the-variants.{ListFull}
 use Rattle.terms.specs.Settings.{inRange}
 use Rattle.terms.proofs.Ranges.{ranges}
 use Rattle.terms.proofs.Verdicts.{asked, top, past, stopped, wrote}
-use Rattle.cutting.specs.WholeLog.{cutLogAnswer, cutLogList, cutLogRows, writtenAnswer}
-use Rattle.cutting.proofs.whole.cut_log.Statement.{statement}
-use Rattle.cutting.proofs.whole.cut_log.Tie as tie
+use Rattle.cutting.specs.Calls.{cutLogRows, cutLogAnswer, cutLogLeaves}
+use Rattle.lists.specs.Written.{writtenAnswer}
+use Rattle.cutting.proofs.cut_log.Statement.{statement}
+use Rattle.cutting.proofs.cut_log.Tie as tie
 
 settings-fine : (c : tie.Else1) → not (inRange (c .before .before .before .before .args .settings)) ≡ false
 settings-fine c = asked (c .before .in-range .ensures) (c .if1 .left)
 
 returns : tie.Need-returns
-unfolding cutLogAnswer cutLogList cutLogRows
+unfolding cutLogAnswer cutLogLeaves cutLogRows
 returns c = stopped ListFull Refused _ _ _ top (asked (c .before .in-range .ensures) (c .if1 .taken)) refl
 
 returns-2 : tie.Need-returns-2
-unfolding cutLogAnswer cutLogList cutLogRows
+unfolding cutLogAnswer cutLogLeaves cutLogRows
 returns-2 c = stopped ListFull Refused _ _ _ (past (settings-fine (c .before)) top) (lt-ltb _ _ (c .if2 .taken)) refl
 
 div-if3 : tie.Need-div-if3
@@ -33,14 +34,14 @@ add-if3 : tie.Need-add-if3
 add-if3 c = omega (arith, div-le-self (length (c .before .before .before .before .before .args .log .now)) (c .before .before .before .before .before .args .settings .minimum), c .if2 .left)
 
 returns-3 : tie.Need-returns-3
-unfolding cutLogAnswer cutLogList cutLogRows
+unfolding cutLogAnswer cutLogLeaves cutLogRows
 returns-3 c = stopped ListFull Refused _ _ _ (past (settings-fine (c .before .before)) (past (le-ltb _ _ (c .before .if2 .left)) top)) (lt-ltb _ _ (c .if3 .taken)) refl
 
 write-cuts-requires : tie.Need-write-cuts-requires
 write-cuts-requires c κs = not-false _ (settings-fine (c .before .before .before))
 
 returns-4 : tie.Need-returns-4
-unfolding cutLogAnswer cutLogList cutLogRows writtenAnswer
+unfolding cutLogAnswer cutLogLeaves cutLogRows writtenAnswer
 returns-4 c =
     wrote ListFull Refused _ _ _
     (past (settings-fine (c .before .before .before .before .before .before)) (past (le-ltb _ _ (c .before .before .before .before .before .if2 .left)) (past (le-ltb _ _ (c .before .before .before .before .if3 .left)) top)))
