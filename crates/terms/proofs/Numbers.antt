@@ -2,7 +2,8 @@
 use Prim.Native.Nat.{ℕ, _<_}
 use lib.Dec.{lit<}
 use Rattle.terms.specs.declared.Refusal.{Refusal}
-use Rattle.terms.specs.declared.Refusal.the-variants.{SettingsOutOfRange, LogTooLong, CarryNotInOrder, CarryClosed, RoomTooShort, RecordTooLong, NoSuchSegment, BayNotDone, BayMalformed, ListNotWellFormed, EditOutOfRange, NoSheet, CheckWordWrong, TrailerWrong, OtherLabel, TooManyCuts, ListFull}
+use Rattle.terms.specs.declared.Refusal.the-variants.{SettingsOutOfRange, LogTooLong, CarryNotInOrder, CarryClosed, RoomTooShort, RecordTooLong, NoSuchSegment, BayNotDone}
+use Rattle.terms.specs.declared.Refusal.the-variants.{BayMalformed, ListNotWellFormed, EditOutOfRange, NoSheet, CheckWordWrong, TrailerWrong, OtherLabel, TooManyCuts, ListFull}
 use Rattle.terms.specs.Refusals.{numberOf}
 
 pub numbered : (why : Refusal) → 0 < numberOf why

@@ -16,7 +16,10 @@ use Rattle.lists.specs.Written.{writtenAnswer}
 use Rattle.cutting.proofs.cut_log.Statement.{statement}
 use Rattle.cutting.proofs.cut_log.Tie as tie
 
-settings-fine : (c : tie.Else1) → not (inRange (c .before .before .before .before .args .settings)) ≡ false
+abbrev entry : tie.Else1 → tie.Start
+entry c = c .before .before .before .before
+
+settings-fine : (c : tie.Else1) → not (inRange (entry c .args .settings)) ≡ false
 settings-fine c = asked (c .before .in-range .ensures) (c .if1 .left)
 
 returns : tie.Need-returns
@@ -31,7 +34,9 @@ div-if3 : tie.Need-div-if3
 div-if3 c = omega (arith, ranges _ (not-false _ (settings-fine (c .before))) .window-fits)
 
 add-if3 : tie.Need-add-if3
-add-if3 c = omega (arith, div-le-self (length (c .before .before .before .before .before .args .log .now)) (c .before .before .before .before .before .args .settings .minimum), c .if2 .left)
+add-if3 c =
+    let start = entry (c .before) in
+    omega (arith, div-le-self (length (start .args .log .now)) (start .args .settings .minimum), c .if2 .left)
 
 returns-3 : tie.Need-returns-3
 unfolding cutLogAnswer cutLogLeaves cutLogRows
@@ -43,9 +48,12 @@ write-cuts-requires c κs = not-false _ (settings-fine (c .before .before .befor
 returns-4 : tie.Need-returns-4
 unfolding cutLogAnswer cutLogLeaves cutLogRows writtenAnswer
 returns-4 c =
+    let called = c .before .before in
+    let roomy = called .before .before in
+    let short = roomy .before in
     wrote ListFull Refused _ _ _
-    (past (settings-fine (c .before .before .before .before .before .before)) (past (le-ltb _ _ (c .before .before .before .before .before .if2 .left)) (past (le-ltb _ _ (c .before .before .before .before .if3 .left)) top)))
-    (c .before .before .write-cuts .ensures .0) (c .before .before .write-cuts .ensures .1)
+    (past (settings-fine (short .before)) (past (le-ltb _ _ (short .if2 .left)) (past (le-ltb _ _ (roomy .if3 .left)) top)))
+    (called .write-cuts .ensures .0) (called .write-cuts .ensures .1)
 
 pub cut-log-spec : {M : Type 1} → statement M
 cut-log-spec =
