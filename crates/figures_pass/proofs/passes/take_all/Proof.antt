@@ -1,10 +1,10 @@
--- `figures::passes::take_all` takes blocks that lie in the log, and ends.
+-- `figures_pass::passes::take_all` takes blocks that lie in the log, and ends.
 use mathlib.Core.Path.{_≡_}
 use Prim.Native.Nat.{_≤_, _-_}
 use lib.ListN.{length}
 use borrow.Author.Needs.{needs}
-use Rattle.figures.proofs.passes.take_all.Statement.{statement}
-use Rattle.figures.proofs.passes.take_all.Tie as tie
+use Rattle.figures_pass.proofs.passes.take_all.Statement.{statement}
+use Rattle.figures_pass.proofs.passes.take_all.Tie as tie
 
 abbrev Inv-loop : tie.InvT-loop
 Inv-loop log size list₀ pass₀ at₀ list pass at = (at ≤ length log) × (length list ≡ length list₀)

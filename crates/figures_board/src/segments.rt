@@ -1,9 +1,9 @@
 // Segments: what log C's record in their bays, the log's end among it, and the refusals with the board that each leaves. A board starts as sevens.
-use super::logs;
-use super::logs::all_bits;
-use super::show;
 use board::segment::record_bay;
 use board::segment::segment;
+use figures::logs;
+use figures::logs::all_bits;
+use figures::show;
 use terms::Settings;
 
 // Records a segment into its bay, and shows the whole board.

@@ -1,9 +1,9 @@
 // Merging: log C's board in whatever order it was recorded, boards that no log records, and the refusals. The lent list starts as sevens.
-use super::logs;
-use super::logs::all_bits;
-use super::show;
 use board::merging::merge;
 use board::segment::segment;
+use figures::logs;
+use figures::logs::all_bits;
+use figures::show;
 use terms::Settings;
 
 fn join(

@@ -1,7 +1,7 @@
 // Carries that are refused, and those at the edge that are not: each call answers, shows the lent list, which starts as sevens, and the carry handed
 // back.
-use super::logs::all_bits;
-use super::show;
+use figures::logs::all_bits;
+use figures::show;
 use pass::block;
 use pass::close;
 use pass::fresh;

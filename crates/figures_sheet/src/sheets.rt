@@ -1,6 +1,6 @@
 // The cut sheet of log C's 48/200 list as practice, byte by byte, and each refusal by a sheet that is damaged its own way.
-use super::logs::all_bits;
-use super::show;
+use figures::logs::all_bits;
+use figures::show;
 use sheet::Sheet;
 use sheet::read_sheet;
 use sheet::write_sheet;

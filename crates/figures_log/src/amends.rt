@@ -2,11 +2,11 @@
 ghost use mathlib.Core.Path.{_≡_};
 ghost use Prim.Native.Nat.{_<_};
 ghost use lib.ListN.{length};
-use super::logs::all_bits;
-use super::show;
 use amending::Amendment;
 use amending::amend;
 use amending::edits::Edit;
+use figures::logs::all_bits;
+use figures::show;
 
 fn counts(what: &[u8], amendment: Amendment) {
     show::text(what);

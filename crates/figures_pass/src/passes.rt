@@ -1,9 +1,9 @@
 // The single pass: logs A and C cut by a fresh carry, blocks and closing. Whatever the blocks' size, the list is the whole log's. It starts as sevens.
 ghost use Prim.Native.Nat.{_≤_, _<_};
-use super::logs;
-use super::logs::all_bits;
-use super::logs::eight_bits;
-use super::show;
+use figures::logs;
+use figures::logs::all_bits;
+use figures::logs::eight_bits;
+use figures::show;
 use pass::block;
 use pass::close;
 use pass::fresh;

@@ -1,7 +1,7 @@
 // Cutting whole logs: the shortest, those about the window's length, minimum = maximum, the limits. The lent list starts as sevens.
-use super::logs::eight_bits;
-use super::show;
-use cutting::whole::cut_log;
+use cutting::cut_log;
+use figures::logs::eight_bits;
+use figures::show;
 use terms::Settings;
 
 fn cut(what: &[u8], settings: Settings, log: &[u8]) {
