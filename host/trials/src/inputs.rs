@@ -27,7 +27,7 @@ pub const EXTREMES: [u64; 18] = [
 ];
 
 /// A number of any size: small ones are as likely as large ones.
-fn any_size(noise: &mut Noise, low: u64, high: u64) -> u64 {
+pub fn any_size(noise: &mut Noise, low: u64, high: u64) -> u64 {
     let bits = noise.between(low.max(1).ilog2().into(), high.ilog2().into());
     noise.between(low.max(1 << bits), high.min((2 << bits) - 1))
 }
@@ -47,6 +47,15 @@ pub fn wide_settings(noise: &mut Noise) -> Settings {
     let target = noise.pick(&[1, any_target, (1 << bits) - 1]) as u32;
     let minimum = any_size(noise, 48, 1 << 24);
     Settings { bits, target, minimum, maximum: any_size(noise, minimum, 1 << 24) }
+}
+
+/// Settings for a log of many times the minimum: marks about that far apart, and a maximum that lets most cuts be marks and segments
+/// have markers.
+pub fn roomy_settings(noise: &mut Noise, minimum: u64) -> Settings {
+    let bits = minimum.ilog2() - 1 + noise.below(3) as u32;
+    let target = noise.between(1, (1 << bits) - 1) as u32;
+    let above = any_size(noise, minimum, 8 * minimum);
+    Settings { bits, target, minimum, maximum: 2 * minimum + above }
 }
 
 /// Settings with one of them out of range, or at the edge of it.
@@ -90,6 +99,22 @@ pub fn length(noise: &mut Noise, settings: &Settings, size: u64) -> usize {
 pub fn log(noise: &mut Noise, settings: &Settings, size: u64) -> Vec<u8> {
     let length = length(noise, settings, size);
     if noise.once_in(3) { lone_ones(noise, settings, size, length) } else { noise.log(length) }
+}
+
+/// A log of some thousands of bytes, and settings for it.
+pub fn long_log(noise: &mut Noise) -> (Settings, Vec<u8>) {
+    let length = any_size(noise, 2_000, 80_000);
+    let minimum = any_size(noise, 48, length / 4);
+    (roomy_settings(noise, minimum), noise.log(length as usize))
+}
+
+/// Settings and a log for them: mostly a short one, now and then a longer one.
+pub fn settings_and_log(noise: &mut Noise) -> (Settings, Vec<u8>) {
+    if noise.once_in(100) {
+        return long_log(noise);
+    }
+    let settings = settings(noise);
+    (settings, log(noise, &settings, 64))
 }
 
 /// Zeros with ones at least 48 apart: where the target is 1, a mark after each and, for 31 bits, nowhere else. The gaps put marks
@@ -148,13 +173,14 @@ pub fn damage(noise: &mut Noise, list: &mut Vec<u64>) {
     }
 }
 
-/// Marks of a log of that length as no log may have them: crowded, far apart, in turns, at the edges of segments.
-pub fn marks(noise: &mut Noise, n: u64, size: u64) -> Vec<u64> {
+/// Marks of a log of that length as no log may have them: crowded, far apart, in turns, at the edges of segments. The gaps go by
+/// the scale.
+pub fn marks(noise: &mut Noise, n: u64, size: u64, scale: u64) -> Vec<u64> {
     let mut marks = Vec::new();
-    let mut mark = 48 + noise.below(150);
+    let mut mark = 48 + noise.below(150 * scale);
     while mark <= n {
         marks.push(mark);
-        let gap = noise.pick(&[3, 60, 150, 400]);
+        let gap = scale * noise.pick(&[3, 60, 150, 400]);
         mark += if noise.once_in(4) { size - mark % size + noise.below(2) } else { noise.between(1, gap) };
     }
     marks

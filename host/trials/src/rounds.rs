@@ -55,10 +55,13 @@ fn fresh(noise: &mut Noise) -> u32 {
     compare::fresh(settings).number
 }
 
+/// Settings for a short block: mostly tight, some wide.
+fn short_settings(noise: &mut Noise) -> Settings {
+    if noise.once_in(8) { inputs::wide_settings(noise) } else { inputs::tight_settings(noise) }
+}
+
 /// A carry that a log leads to, or any in order, or one altered.
-fn any_carry(noise: &mut Noise) -> Carry {
-    let wide = noise.once_in(8);
-    let settings = if wide { inputs::wide_settings(noise) } else { inputs::tight_settings(noise) };
+fn any_carry(noise: &mut Noise, settings: Settings) -> Carry {
     let mut carry = inputs::carry(noise, settings);
     if noise.once_in(2) {
         let log = inputs::log(noise, &settings, 64);
@@ -73,33 +76,45 @@ fn any_carry(noise: &mut Noise) -> Carry {
 }
 
 fn block(noise: &mut Noise) -> u32 {
-    let carry = any_carry(noise);
-    let mut bytes = inputs::log(noise, &carry.settings, 64);
-    if noise.once_in(2) {
-        bytes.truncate(noise.below(100) as usize);
-    }
+    let (carry, bytes) = if noise.once_in(100) {
+        let (settings, log) = inputs::long_log(noise);
+        (any_carry(noise, settings), log)
+    } else {
+        let settings = short_settings(noise);
+        let mut log = inputs::log(noise, &settings, 64);
+        if noise.once_in(2) {
+            log.truncate(noise.below(100) as usize);
+        }
+        (any_carry(noise, settings), log)
+    };
     let room = inputs::room(&carry.settings, bytes.len() as u64);
     compare::block(carry, &bytes, &inputs::list(noise, room)).0.number
 }
 
 fn close(noise: &mut Noise) -> u32 {
-    let carry = any_carry(noise);
+    let settings = short_settings(noise);
+    let carry = any_carry(noise, settings);
     compare::close(carry, &inputs::list(noise, 1)).0.number
 }
 
 fn cut_log(noise: &mut Noise) -> u32 {
-    let settings = inputs::settings(noise);
-    let log = inputs::log(noise, &settings, 64);
+    let (settings, log) = inputs::settings_and_log(noise);
     let room = inputs::room(&settings, log.len() as u64);
     compare::cut_log(settings, &log, &inputs::list(noise, room)).0.number
 }
 
 /// Settings, a log, a segment size and a segment of it, now and then one that is not there.
 fn any_segment(noise: &mut Noise) -> (Settings, Vec<u8>, u64, u64) {
-    let settings = inputs::settings(noise);
-    let any = noise.between(64, 700);
-    let size = noise.pick(&[64, 65, 100, 150, any, any, 1 << 24]);
-    let log = inputs::log(noise, &settings, size);
+    let (settings, log, size) = if noise.once_in(100) {
+        let (settings, log) = inputs::long_log(noise);
+        let length = log.len() as u64;
+        (settings, log, inputs::any_size(noise, (length / 20).max(64), length))
+    } else {
+        let settings = inputs::settings(noise);
+        let any = noise.between(64, 700);
+        let size = noise.pick(&[64, 65, 100, 150, any, any, 1 << 24]);
+        (settings, inputs::log(noise, &settings, size), size)
+    };
     let segments = (log.len() as u64).div_ceil(size);
     let index = if noise.once_in(10) { segments } else { noise.below(segments.max(1)) };
     let size = if noise.once_in(20) { noise.pick(&inputs::EXTREMES) } else { size };
@@ -130,11 +145,15 @@ fn record(noise: &mut Noise) -> u32 {
     compare::record(settings, &log, size, index, &bay).0.number
 }
 
+/// A board needs no log, so that its numbers may be of any scale.
 fn merge(noise: &mut Noise) -> u32 {
     let mut settings = inputs::tight_settings(noise);
     let mut size = noise.between(64, 700);
     let mut n = inputs::length(noise, &settings, size) as u64;
-    let marks = inputs::marks(noise, n, size);
+    let scale = if noise.once_in(4) { inputs::any_size(noise, 1, 1 << 14) } else { 1 };
+    (settings.minimum, settings.maximum) = (scale * settings.minimum, scale * settings.maximum);
+    (size, n) = (scale * size, scale * n);
+    let marks = inputs::marks(noise, n, size, scale);
     let mut room = noise.between(2, 60);
     let bay: Vec<u64> = (0..room).map(|_| noise.number()).collect();
     let mut board = inputs::board(&settings, n, &marks, size, &bay);
@@ -169,7 +188,7 @@ fn any_edit(noise: &mut Noise, log: &[u8], list: &[u64]) -> ([u64; 3], Vec<u8>) 
     let at = noise.pick(&[0, n, any, listed, around]).min(n);
     let (some, piece) = (noise.between(0, n - at), noise.pick(&[1, 48, 100]));
     let removed = noise.pick(&[0, 0, piece, some, n - at]).min(n - at);
-    let longest = noise.pick(&[0, 1, 60, 400]);
+    let longest = noise.pick(&[0, 1, 60, 400, 3_000, 2 * n]);
     let added = noise.between(0, longest);
     let repeated = noise.between(0, n - added.min(n)) as usize;
     let bytes = if noise.once_in(2) && added <= n {
@@ -182,8 +201,12 @@ fn any_edit(noise: &mut Noise, log: &[u8], list: &[u64]) -> ([u64; 3], Vec<u8>) 
 }
 
 fn amend(noise: &mut Noise) -> u32 {
-    let mut settings = inputs::tight_settings(noise);
-    let log = inputs::log(noise, &settings, 64);
+    let (mut settings, log) = if noise.once_in(200) {
+        inputs::long_log(noise)
+    } else {
+        let settings = inputs::tight_settings(noise);
+        (settings, inputs::log(noise, &settings, 64))
+    };
     let n = log.len() as u64;
     let marks = second::marks(&compare::plain(settings), &log);
     let mut old = second::cuts_after(&compare::plain(settings), n, &marks, 0);
@@ -205,8 +228,13 @@ fn amend(noise: &mut Noise) -> u32 {
     compare::amend(settings, &old, edit, &edited, &inputs::list(noise, room)).0.number
 }
 
-/// Settings and a list that is well formed for them.
+/// Settings and a list that is well formed for them, its offsets of any scale.
 fn any_list(noise: &mut Noise) -> (Settings, Vec<u64>) {
+    if noise.once_in(4) {
+        let settings = inputs::wide_settings(noise);
+        let end = inputs::any_size(noise, 1, 100 * settings.minimum);
+        return (settings, inputs::untrue_list(noise, &settings, end));
+    }
     let settings = inputs::tight_settings(noise);
     let end = inputs::length(noise, &settings, 64) as u64;
     (settings, inputs::untrue_list(noise, &settings, end))

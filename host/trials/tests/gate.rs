@@ -30,7 +30,8 @@ fn verdict(rt_says: &str, rt_status: u8, cargo_status: u8) -> (String, bool) {
 #[test]
 fn what_passed_is_counted_with_the_host_tests_as_one() {
     let (lines, success) = gate("rt: laws proved\n120 passed, 0 failed", 0, 0);
-    let shown = ["rt: laws proved", "120 passed, 0 failed", "in host: test --release --offline", "121 passed, 0 failed"];
+    let shown =
+        ["rt: laws proved", "120 passed, 0 failed", "in host: test --release --offline", "121 passed, 0 failed"];
     assert_eq!((&lines[..], success), (&shown.map(str::to_string)[..], true));
 }
 
@@ -49,7 +50,8 @@ fn failures_of_the_kit_are_counted() {
 
 #[test]
 fn a_kit_that_ends_without_its_counts_has_failed() {
-    let last_lines = ["", "120 passed, 0 failed\nkilled", "rt: 120 passed, 0 failed", "120 passed, 0 failed, 3 skipped"];
+    let last_lines =
+        ["", "120 passed, 0 failed\nkilled", "rt: 120 passed, 0 failed", "120 passed, 0 failed, 3 skipped"];
     for says in last_lines {
         for status in [0, 137] {
             assert_eq!(verdict(says, status, 0), ("1 passed, 1 failed".to_string(), false), "{says}, {status}");
