@@ -2,7 +2,7 @@
 //! program's. `host/fuzz/run` fuzzes with clang's libFuzzer; `cargo run --release --offline -p fuzz FILE...` runs files.
 
 use thrunglow::{Carry, Settings};
-use trials::{compare, inputs};
+use trials::{compare, damage, inputs};
 
 /// What libFuzzer calls. A difference ends the program.
 ///
@@ -24,7 +24,7 @@ pub fn call(input: &[u8]) {
         0 => read_sheet(input.byte(), input.0),
         1 => {
             let (choices, mut sheet) = (input.byte(), input.0.to_vec());
-            inputs::mend_check_word(&mut sheet);
+            damage::mend_check_word(&mut sheet);
             read_sheet(choices, &sheet);
         }
         2 => merge(&mut input),

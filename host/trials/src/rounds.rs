@@ -1,6 +1,6 @@
 //! A random trial for each call, fixed by the noise it is given.
 
-use crate::{compare, inputs};
+use crate::{compare, damage, edits, inputs};
 use noise::Noise;
 use thrunglow::{Carry, Settings};
 
@@ -70,7 +70,7 @@ fn any_carry(noise: &mut Noise, settings: Settings) -> Carry {
         carry = compare::exported_carry(second::block(&fresh, &log, &list).2);
     }
     if noise.once_in(8) {
-        inputs::damage_carry(noise, &mut carry);
+        damage::carry(noise, &mut carry);
     }
     carry
 }
@@ -163,7 +163,7 @@ fn merge(noise: &mut Noise) -> u32 {
             bay[0] = bay.len() as u64 - 1;
         }
         if noise.once_in(20) {
-            inputs::damage_bay(noise, bay);
+            damage::bay(noise, bay);
         }
     }
     match noise.below(30) {
@@ -180,26 +180,6 @@ fn merge(noise: &mut Noise) -> u32 {
     compare::merge(settings, n, size, room, &board, &inputs::list(noise, needed)).0.number
 }
 
-/// An edit of a log: where, what is removed and what is added, and the log that comes of it.
-fn any_edit(noise: &mut Noise, log: &[u8], list: &[u64]) -> ([u64; 3], Vec<u8>) {
-    let n = log.len() as u64;
-    let listed = if list.is_empty() { 0 } else { noise.pick(list) };
-    let (any, around) = (noise.between(0, n), listed.saturating_sub(noise.below(3)) + noise.below(3));
-    let at = noise.pick(&[0, n, any, listed, around]).min(n);
-    let (some, piece) = (noise.between(0, n - at), noise.pick(&[1, 48, 100]));
-    let removed = noise.pick(&[0, 0, piece, some, n - at]).min(n - at);
-    let longest = noise.pick(&[0, 1, 60, 400, 3_000, 2 * n]);
-    let added = noise.between(0, longest);
-    let repeated = noise.between(0, n - added.min(n)) as usize;
-    let bytes = if noise.once_in(2) && added <= n {
-        log[repeated..][..added as usize].to_vec()
-    } else {
-        noise.log(added as usize)
-    };
-    let edited = [&log[..at as usize], &bytes, &log[(at + removed) as usize..]].concat();
-    ([at, removed, added], edited)
-}
-
 fn amend(noise: &mut Noise) -> u32 {
     let (mut settings, log) = if noise.once_in(200) {
         inputs::long_log(noise)
@@ -213,9 +193,9 @@ fn amend(noise: &mut Noise) -> u32 {
     if noise.once_in(3) {
         old = inputs::untrue_list(noise, &settings, n);
     }
-    let (mut edit, mut edited) = any_edit(noise, &log, &old);
+    let (mut edit, mut edited) = edits::any_edit(noise, &log, &old);
     match noise.below(20) {
-        0 => inputs::damage(noise, &mut old),
+        0 => damage::list(noise, &mut old),
         1 => edit[noise.below(3) as usize] = noise.pick(&inputs::EXTREMES),
         2 => edited.push(1),
         3 => drop(edited.pop()),
@@ -243,7 +223,7 @@ fn any_list(noise: &mut Noise) -> (Settings, Vec<u64>) {
 fn write_sheet(noise: &mut Noise) -> u32 {
     let (mut settings, mut list) = any_list(noise);
     if noise.once_in(4) {
-        inputs::damage(noise, &mut list);
+        damage::list(noise, &mut list);
     }
     if noise.once_in(10) {
         settings = inputs::settings(noise);
@@ -261,14 +241,14 @@ fn read_sheet(noise: &mut Noise) -> u32 {
     let mut sheet = vec![0; 8 * list.len() + 32];
     sheet = second::write_sheet(&compare::plain(settings), label, &list, &sheet).2;
     if noise.once_in(4) {
-        inputs::damage(noise, &mut list);
+        damage::list(noise, &mut list);
         let body: Vec<u8> = list.iter().flat_map(|cut| cut.to_be_bytes()).collect();
         let start = sheet.len() - 32;
         sheet = [&body, &sheet[start..]].concat();
-        inputs::mend_check_word(&mut sheet);
+        damage::mend_check_word(&mut sheet);
     }
     if noise.once_in(3) {
-        inputs::damage_sheet(noise, &mut sheet);
+        damage::sheet(noise, &mut sheet);
     }
     let before = noise.below(3) * noise.below(40);
     let bytes = [noise.bytes(before as usize), sheet].concat();
