@@ -40,12 +40,14 @@ impl Drop for Telling {
     }
 }
 
-/// Runs the rounds of a call whose seeds are `seed` and the numbers after it, and counts how often each number was answered.
-pub fn run(round: &Round, seed: u64, rounds: u64) -> [u64; 18] {
+/// Runs that many rounds of a call, and counts how often each number was answered. The first has this seed; each later one has for
+/// its seed the first number of the noise before it, so that runs from different seeds have no round in common.
+pub fn run(round: &Round, mut seed: u64, rounds: u64) -> [u64; 18] {
     let mut answered = [0; 18];
-    for seed in seed..seed + rounds {
+    for _ in 0..rounds {
         let _telling = Telling { call: round.call, seed };
         answered[(round.trial)(&mut Noise::new(seed)) as usize] += 1;
+        seed = Noise::new(seed).number();
     }
     answered
 }

@@ -3,8 +3,10 @@
 
 use std::os::unix::process::ExitStatusExt;
 use std::process::Command;
+use thrunglow::Settings;
 use trials::lent::{Place, lending};
 use trials::rounds::{ALL, run};
+use trials::{compare, ways};
 
 /// How a program that touches this byte ends: what it printed, and the signal that ended it.
 fn trespass(act: &str, side: &str) -> (String, Option<i32>) {
@@ -40,4 +42,27 @@ fn memory_right_after_a_fence() {
 #[test]
 fn memory_right_before_a_fence() {
     every_call(Place::BeforeFence);
+}
+
+/// Logs of whole pages have a fence at both ends; so has a sheet of 508 cuts.
+#[test]
+fn whole_pages_between_fences() {
+    let settings = Settings { bits: 5, target: 7, minimum: 48, maximum: 200 };
+    for pages in 1..=3 {
+        let log = noise::Noise::new(pages).bytes(4_096 * pages as usize);
+        lending(Place::AfterFence, || {
+            let cuts = ways::whole(settings, &log);
+            assert_eq!(ways::in_blocks(settings, [&log[..]]), cuts);
+            for size in [64, 1_000, 4_096] {
+                assert_eq!(ways::in_segments(settings, &log, size), cuts);
+            }
+            for at in [0, 100, log.len() as u64] {
+                assert_eq!(ways::amended(settings, &cuts, [at, 0, 0], &log).1, cuts);
+            }
+        });
+    }
+    let list: Vec<u64> = (1..=508).map(|k| 100 * k).collect();
+    let (outcome, sheet) = lending(Place::AfterFence, || compare::write_sheet(settings, true, &list, &[7; 4_096]));
+    assert_eq!((outcome.number, outcome.count), (0, 4_096));
+    assert_eq!(lending(Place::AfterFence, || compare::read_sheet(&sheet, true, &[7; 512])).0.number, 0);
 }
