@@ -1,5 +1,6 @@
 //! The gate's last line and status, with stand-ins for the kit and for cargo.
 
+use std::os::unix::fs::PermissionsExt;
 use std::path::{Path, PathBuf};
 use std::process::Command;
 
@@ -10,6 +11,11 @@ fn here(path: &str) -> PathBuf {
 /// The lines that the gate prints, and whether it ends with status 0, where the kit says this and ends with that status, and
 /// cargo with the other.
 fn gate(rt_says: &str, rt_status: u8, cargo_status: u8) -> (Vec<String>, bool) {
+    // The gate must not start the true ones, which would start this test again.
+    for stand_in in ["tests/gate/rt", "tests/gate/cargo"] {
+        let about = here(stand_in).metadata().unwrap_or_else(|error| panic!("{stand_in}: {error}"));
+        assert!(about.permissions().mode() & 0o111 == 0o111, "{stand_in} cannot be run");
+    }
     let run = Command::new(here("../../.ci/run"))
         .env("PATH", format!("{}:/usr/bin:/bin", here("tests/gate").display()))
         .env("RT_SAYS", rt_says)
