@@ -1,5 +1,6 @@
 //! Numbers near 2^40 and 2^64, and logs of more bytes than 2^40.
 
+use noise::Noise;
 use std::ffi::c_void;
 use thrunglow::raw::{self, Amendment, Outcome};
 use thrunglow::{Carry, Settings};
@@ -50,6 +51,20 @@ fn the_longest_board() {
         compare::merge(LONG, n, size, 2, &board, &list[..65_536]);
         compare::merge(LONG, n, size, 2, &board, &list);
     }
+}
+
+/// A bay for each segment of the longest log, with one offset in it; some offsets are cuts, some too near, and some cuts are forced.
+#[test]
+fn offsets_up_to_the_longest_log() {
+    let size = 1 << 24;
+    let settings = Settings { minimum: 1 << 22, maximum: 3 << 22, ..TIGHT };
+    let mut noise = Noise::new(1);
+    let offsets: Vec<u64> = (0..LONGEST / size).map(|k| k * size + noise.between(1 << 22, 3 << 22)).collect();
+    let board: Vec<u64> = offsets.iter().flat_map(|&offset| [2, 0, offset]).collect();
+    let (outcome, list) = compare::merge(settings, LONGEST, size, 3, &board, &vec![7; 262_145]);
+    let cuts = &list[..outcome.count as usize];
+    let listed = cuts.iter().filter(|cut| offsets.binary_search(cut).is_ok()).count();
+    assert!(listed > 1_000 && cuts.len() - listed > 1_000, "{outcome:?}, {listed} offsets");
 }
 
 #[test]
