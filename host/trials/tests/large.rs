@@ -55,7 +55,8 @@ fn blocks() {
 #[test]
 fn segments() {
     for (mut noise, settings, log, cuts) in each_minimum(7) {
-        let (n, size) = (log.len() as u64, noise.between(100_001, 400_000));
+        let n = log.len() as u64;
+        let size = noise.between(100_001, n * 2 / 3);
         let width = 2 + size / 16;
         let board = board(settings, &log, size, width);
         let markers = board.chunks(width as usize).filter(|bay| bay[1] > 0).count();
@@ -70,9 +71,9 @@ fn segments() {
 #[test]
 fn edits() {
     for (mut noise, settings, log, cuts) in each_minimum(13) {
-        for longest in [5_000, 100_000, 300_000] {
+        let [any, other] = [(); 2].map(|()| any_size(&mut noise, 401, 100_000) as usize);
+        for (removed, added) in [(any, other), (300_000, any), (other, 300_000)] {
             let at = noise.between(100_000, 300_000) as usize;
-            let [removed, added] = [(); 2].map(|()| any_size(&mut noise, 401, longest) as usize);
             let edited = [&log[..at], &noise.bytes(added), &log[at + removed..]].concat();
             let edit = [at, removed, added].map(|number| number as u64);
             let (answer, amended) = amended(settings, &cuts, edit, &edited);
