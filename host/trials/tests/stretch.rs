@@ -56,8 +56,11 @@ fn trial(noise: &mut Noise, settings: Settings, log: &[u8], old: &[u64], seen: &
     }
 }
 
+/// Settings, a log, and an old list of the log's length.
+type Arguments = (Settings, Vec<u8>, Vec<u64>);
+
 /// That many trials of what `arguments` makes; none of the three may be rare.
-fn trials(rounds: u32, arguments: fn(&mut Noise) -> (Settings, Vec<u8>, Vec<u64>)) {
+fn trials(rounds: u32, arguments: fn(&mut Noise) -> Arguments) {
     let mut seen = Seen::default();
     for seed in 0..rounds {
         let mut noise = Noise::new(seed.into());

@@ -31,7 +31,7 @@ const CUTS: [Settings; 3] = [
     Settings::HOUSE,
 ];
 
-/// The log every way, and then with one file taken out, one put in and one put at the end.
+/// The log of these parts every way, and then with one part taken out, put in twice, and put at the end.
 fn every_way(settings: Settings, parts: &[Vec<u8>], noise: &mut Noise) {
     let log = parts.concat();
     let cuts = whole(settings, &log);
@@ -50,7 +50,7 @@ fn every_way(settings: Settings, parts: &[Vec<u8>], noise: &mut Noise) {
     }
 }
 
-/// Both texts at each of the settings.
+/// The log of these parts at each of the settings.
 fn at_each_settings(parts: &[Vec<u8>]) {
     let bytes: usize = parts.iter().map(Vec::len).sum();
     assert!(parts.len() > 10 && bytes > 200_000, "{} parts, {bytes} bytes", parts.len());
