@@ -15,16 +15,23 @@ fn marked_at(length: usize, marks: &[u64]) -> Vec<u8> {
     log
 }
 
-/// The first mark is too near; without the second one the first cut is forced.
-#[test]
-fn a_cut_at_a_mark_and_a_forced_cut() {
+/// A log a little longer than a piece can be, with these marks, has this cut and its end, every way.
+fn is_cut_at(marks: &[u64], cut: u64) {
     let settings = Settings { bits: 31, target: 1, minimum: LONGEST_PIECE - 100, maximum: LONGEST_PIECE };
-    for (marks, cut) in [(&[LONGEST_PIECE - 101, LONGEST_PIECE - 1][..], LONGEST_PIECE - 1), (&[], LONGEST_PIECE)] {
-        let log = marked_at(LONGEST_PIECE as usize + 200, marks);
-        let n = log.len() as u64;
-        assert_eq!(whole(settings, &log), [cut, n]);
-        assert_eq!(in_blocks(settings, [&log[..]]), [cut, n]);
-        let bay = compare::record(settings, &log, LONGEST_PIECE, 0, &[7; 4]).1;
-        assert_eq!(bay, [2, 0, cut, 7]);
-    }
+    let log = marked_at(LONGEST_PIECE as usize + 200, marks);
+    let n = log.len() as u64;
+    assert_eq!(whole(settings, &log), [cut, n]);
+    assert_eq!(in_blocks(settings, [&log[..]]), [cut, n]);
+    assert_eq!(compare::record(settings, &log, LONGEST_PIECE, 0, &[7; 4]).1, [2, 0, cut, 7]);
+}
+
+#[test]
+fn a_cut_at_a_mark() {
+    let too_near = LONGEST_PIECE - 101;
+    is_cut_at(&[too_near, LONGEST_PIECE - 1], LONGEST_PIECE - 1);
+}
+
+#[test]
+fn a_forced_cut() {
+    is_cut_at(&[], LONGEST_PIECE);
 }
