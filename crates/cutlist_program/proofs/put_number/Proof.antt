@@ -1,7 +1,9 @@
 -- `cutlist_program::put_number` meets its contract: the digits that are put are the number's spelling.
 use borrow.Author.Needs.{needs}
 use native.Mathlib.Omega.{arith}
-use mathlib.Core.Path.{_∙_}
+use mathlib.Core.Path.{_≡_, _∙_}
+use lib.ListN.{take}
+use Rattle.cutlist_program.specs.Text.{spelled}
 use Rattle.cutlist_program.proofs.Texts.{spelled-by, spelled-short}
 use Rattle.cutlist_program.proofs.put_number.Statement.{statement}
 use Rattle.cutlist_program.proofs.put_number.Tie as tie
@@ -12,18 +14,18 @@ entry c = c .before .before .before
 abbrev counted : tie.After-digits2 → tie.After-decimal
 counted c = c .before .before
 
+known : (c : tie.After-decimal) → take (c .decimal .result) (c .decimal .last .1 .0) ≡ spelled (entry c .args .n)
+known c =
+    let told = c .decimal .ensures in
+    told .1 .1 ∙ spelled-by (entry c .args .n) (c .decimal .result) (entry c .fits .n .fits) (told .1 .0)
+
 put-requires : tie.Need-put-requires
 put-requires c κs =
     let start = entry (counted c) in
-    let told = counted c .decimal .ensures in
-    rw (told .1 .1 ∙ spelled-by (start .args .n) (counted c .decimal .result) (start .fits .n .fits) (told .1 .0)) (omega (arith, spelled-short (start .args .n), start .pre))
+    rw (known (counted c)) (omega (arith, spelled-short (start .args .n), start .pre))
 
 returns : tie.Need-returns
-returns c =
-    let place = counted (c .before .before .before) in
-    let start = entry place in
-    let told = place .decimal .ensures in
-    rw (told .1 .1 ∙ spelled-by (start .args .n) (place .decimal .result) (start .fits .n .fits) (told .1 .0)) at (c .before .before .put .ensures)
+returns c = rw (known (counted (c .before .before .before))) at (c .before .before .put .ensures)
 
 pub put-number-spec : {M : Type 1} → statement M
 put-number-spec = tie.close (tie.spec (λ c κs. search needs) (λ c. search needs) (λ c. search needs) put-requires (λ c. search needs) returns)
