@@ -17,7 +17,8 @@ use std::time::Duration;
 fn script() -> &'static Path {
     static BUILT: OnceLock<PathBuf> = OnceLock::new();
     BUILT.get_or_init(|| {
-        let script = Path::new(env!("CARGO_MANIFEST_DIR")).join("../../cutlist").canonicalize().expect("the script is there");
+        let script =
+            Path::new(env!("CARGO_MANIFEST_DIR")).join("../../cutlist").canonicalize().expect("the script is there");
         let run = Command::new(&script).stdin(Stdio::null()).output().expect("the script starts");
         assert_eq!(text(&run.stdout), "cuts 0 bytes 0\n", "{}", text(&run.stderr));
         script
@@ -76,7 +77,8 @@ fn assert_not_whole(run: &Output, why: &str) {
 #[test]
 fn the_two_programs_print_the_same() {
     let mut noise = Noise::new(1);
-    let mut logs = vec![vec![], vec![7], vec![0; 70_000], vec![0; 2 * 65_536], noise.bytes(300_000), noise.bytes(10_000_000)];
+    let mut logs =
+        vec![vec![], vec![7], vec![0; 70_000], vec![0; 2 * 65_536], noise.bytes(300_000), noise.bytes(10_000_000)];
     for length in [47, 48, 2_047, 2_048, 2_049, 65_535, 65_536, 65_537, 131_073] {
         logs.push(noise.log(length));
     }
@@ -111,7 +113,9 @@ fn lines_come_while_the_log_is_read() {
     let mut run = started(cutlist());
     run.stdin.as_mut().expect("its input").write_all(&log).expect("it takes the log");
     let mut first = String::new();
-    BufReader::new(run.stdout.as_mut().expect("its output")).read_line(&mut first).expect("a line, with the log still open");
+    BufReader::new(run.stdout.as_mut().expect("its output"))
+        .read_line(&mut first)
+        .expect("a line, with the log still open");
     assert!(text(&expected("open", &log)).starts_with(&first));
     assert!(run.wait().expect("it ends").success());
 }
@@ -153,7 +157,9 @@ fn output_that_would_have_to_wait_is_told() {
 #[test]
 fn output_that_nobody_reads_ends_it() {
     let log = Noise::new(7).bytes(2_000_000);
-    for (program, code, said) in [(cutlist(), 141, ""), (cutlist_after("trap '' PIPE;"), 1, "cutlist: cannot write: Broken pipe\n")] {
+    for (program, code, said) in
+        [(cutlist(), 141, ""), (cutlist_after("trap '' PIPE;"), 1, "cutlist: cannot write: Broken pipe\n")]
+    {
         let mut run = started(program);
         drop(run.stdout.take());
         // it may end before it has read the whole log
@@ -199,7 +205,9 @@ fn arguments_are_answered() {
     }
     for help in ["-h", "--help"] {
         let run = cutlist().arg(help).output().expect("it starts");
-        assert!(run.status.success() && run.stderr.is_empty() && text(&run.stdout).starts_with("usage: cutlist < LOG\n"));
+        assert!(
+            run.status.success() && run.stderr.is_empty() && text(&run.stdout).starts_with("usage: cutlist < LOG\n")
+        );
     }
     let run = cutlist().arg("--version").output().expect("it starts");
     assert!(run.status.success() && run.stderr.is_empty());
@@ -213,7 +221,9 @@ fn it_is_found_through_links() {
     fs::create_dir(&folder).expect("a folder");
     symlink(script(), folder.join("first")).expect("a link");
     symlink("first", folder.join("second")).expect("a link to it");
-    for (link, from) in [("./second", folder.as_path()), ("./a folder with links/second", folder.parent().expect("its folder"))] {
+    for (link, from) in
+        [("./second", folder.as_path()), ("./a folder with links/second", folder.parent().expect("its folder"))]
+    {
         let mut linked = Command::new(link);
         linked.current_dir(from);
         assert_eq!(text(&printed(linked, stored("linked", &[7]))), "1 1\ncuts 1 bytes 1\n");
