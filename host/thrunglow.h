@@ -3,8 +3,10 @@
  * A log is cut into pieces where its content says. A list of cuts has the offset where each piece ends, rising, the log's length
  * last. It belongs to the bytes and the settings alone: every way of cutting gives the same list.
  *
- * Every call takes any arguments. Memory is lent as a pointer and a length in entries, and none is kept; the pointer may be anything
- * where the length is 0. A call may run beside others on other threads as long as no memory that one writes is lent to another.
+ * Every call takes any numbers, bytes, carries, boards, lists and sheets, and answers them. Of memory it asks what C asks of any call: it is
+ * lent as a pointer and a length in entries, and none is kept; the pointer may be anything where the length is 0. What a call writes must not
+ * overlap what it reads: amend into another list than the old one. A call may run beside others on other threads as long as no memory
+ * that one writes is lent to another.
  *
  * A number of 0 is a success. Any other is a refusal: every value beside it is 0, a carry comes back unaltered, and lent memory is
  * untouched (but see thrunglow_segment). docs/HANDBOOK.md says what each number means and what to do.
