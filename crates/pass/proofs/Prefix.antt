@@ -10,7 +10,7 @@ use lib.Seq.{drop-append-le, drop-append-add, drop-drop}
 use Rattle.terms.specs.declared.Settings.{Settings}
 use Rattle.terms.proofs.Ranges.{Ranges}
 use Rattle.rule.specs.Rule.{hop}
-use Rattle.rule.proofs.Hops.{UpTo, past, up-to-joined, stands, hop-rises}
+use Rattle.rule.proofs.Hops.{UpTo, past, up-to-joined, last-is, stands, hop-rises}
 use Rattle.signature.specs.Polynomials.{foldDigits, rem}
 use Rattle.signature.specs.Signatures.{number, signature, signatureOf}
 use Rattle.cutting.specs.Marks.{mark, matches}
@@ -19,7 +19,7 @@ use Rattle.pass_carry.specs.declared.Carry.{Carry}
 use Rattle.pass_carry.specs.Carries.{freshCarry, blockTaken, cutsIn}
 use Rattle.pass_carry.proofs.Sees.{Sees, sees-first}
 use Rattle.pass_carry.proofs.Bytes.{Continues, Hopped, block-hops}
-use Rattle.pass_carry.proofs.Parts.{length-slid-by, Parts, parts}
+use Rattle.pass_carry.proofs.Parts.{length-slid-by, Parts, parts, since-last}
 
 -- the log with the zeros that a window shows before its start
 abbrev pub padded : List ℕ → List ℕ
@@ -114,6 +114,6 @@ module _ (s : Settings) (log block after written : List ℕ) (c : Carry) (ok : R
         ahead = ahead-still;
         signed = left .signature-true;
         last = hopped .last;
-        tied = hopped .tied ∙ sym (left .taken-grown);
+        tied = omega (arith, since-last block c (is .last) (is .tied), last-is (hopped .cuts), left .taken-grown);
         cuts = rw (left .taken-grown) (up-to-joined (omega arith) (is .cuts) cuts-here);
       }

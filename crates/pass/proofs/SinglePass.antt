@@ -16,22 +16,23 @@ use Rattle.rule.proofs.Hops.{UpTo, cuts-by-hops, still-open, already}
 use Rattle.cutting.specs.Marks.{mark, cutList}
 use Rattle.cutting.proofs.Written.{written-first}
 use Rattle.pass_carry.specs.declared.Carry.{Carry}
-use Rattle.pass_carry.specs.declared.order.Verdict.the-variants.{Fine, Wrong}
+use Rattle.terms.specs.declared.Verdict.the-variants.{Fine}
+use Rattle.terms.specs.Rows.{verdict}
 use Rattle.pass_carry.specs.Carries.{freshCarry, blockTaken, cutsIn}
 use Rattle.pass_carry.specs.Outcomes.{wrote, carryRows}
 use Rattle.pass_carry.proofs.Room.{enough-room}
-use Rattle.pass_carry.proofs.Rows.{judged-fine}
-use Rattle.pass.specs.Calls.{freshOf, blockOf, blockList, closingCut, closeOf, closeList}
+use Rattle.pass_carry.proofs.Rows.{admitted}
+use Rattle.pass.specs.Calls.{freshRows, freshOutcome, blockRows, blockOutcome, blockLeaves, closingCut, closeOutcome, closeLeaves}
 use Rattle.pass.specs.SinglePass.{Lent, joined, Roomy, none, more, writtenFrom, writtenBy}
-use Rattle.pass.proofs.Blocks.{block-fine, never-full}
+use Rattle.pass.proofs.Blocks.{block-fine}
 use Rattle.pass.proofs.Closing.{closing-open, closing-shut, closing-few, answered, left}
 use Rattle.pass.proofs.Prefix.{onward, CarryOf, fresh-prefix, block-prefix}
 use Rattle.pass.proofs.Ordered.{in-order}
 
 module _ (s : Settings) (log : List ℕ) (fine : inRange s ≡ true) (fits : length log ≤ longest) where
   -- a carry of a prefix is refused by none of the rows that judge a carry
-  passes : (rest written : List ℕ) (c : Carry) → CarryOf s log rest written c → carryRows c Wrong Fine ≡ Fine
-  passes rest written c is = judged-fine c (ap inRange (is .same) ∙ fine) (in-order s log rest written c (ranges s fine) is fits) (is .open-still)
+  passes : (rest written : List ℕ) (c : Carry) → CarryOf s log rest written c → verdict (carryRows c) ≡ Fine
+  passes rest written c is = admitted c (ap inRange (is .same) ∙ fine) (in-order s log rest written c (ranges s fine) is fits) (is .open-still)
 
   module _ (block after written : List ℕ) (c : Carry) (is : CarryOf s log (block ++ after) written c) (list : List ℕ)
       (roomy : roomFor (s .minimum) (length block) ≤ length list) where
@@ -44,15 +45,17 @@ module _ (s : Settings) (log : List ℕ) (fine : inRange s ≡ true) (fits : len
     short : c .taken + length block ≤ longest
     short = omega (arith, is .here, length-append block after)
 
-    block-answers : blockOf c block (length list) ≡ wrote (blockTaken c block) (length (cutsIn c block))
-    block-answers = sym (block-fine c block list refl (passes (block ++ after) written c is) short lent .0) ∙ never-full c block list positive lent
+    fine-rows : verdict (blockRows c block (length list)) ≡ Fine
+    fine-rows = block-fine c block (length list) (passes (block ++ after) written c is) short lent positive
+
+    block-answers : blockOutcome c block (length list) ≡ wrote (blockTaken c block) (length (cutsIn c block))
+    unfolding blockOutcome
+    block-answers = rw fine-rows
 
     -- the entries that the call says it wrote are the block's cuts
-    block-writes : take (answerCount (blockOf c block (length list) .answer)) (blockList c block list) ≡ cutsIn c block
-    unfolding answerCount
-    block-writes =
-        rw (block-answers, sym (block-fine c block list refl (passes (block ++ after) written c is) short lent .1))
-        (written-first (cutsIn c block) list (omega (arith, lent, enough-room block c positive)))
+    block-writes : take (answerCount (blockOutcome c block (length list) .answer)) (blockLeaves c block list) ≡ cutsIn c block
+    unfolding answerCount blockLeaves
+    block-writes = rw (block-answers, fine-rows) (written-first (cutsIn c block) list (omega (arith, lent, enough-room block c positive)))
 
   module _ (written : List ℕ) (c : Carry) (is : CarryOf s log [] written c) (list : List ℕ) (roomy : 1 ≤ length list) where
     whole : c .taken ≡ length log
@@ -64,10 +67,10 @@ module _ (s : Settings) (log : List ℕ) (fine : inRange s ≡ true) (fits : len
         (λ h. closing-open c h ∙ ap (λ n. n ∷ []) whole ∙ sym (still-open (length log) (is .last) (omega (arith, is .tied, whole))))
         (λ h. closing-shut c h ∙ sym (already (length log) (is .last) (omega (arith, is .tied, whole))))
 
-    close-writes : take (answerCount (closeOf c (length list) .answer)) (closeList c list) ≡ closingCut c
+    close-writes : take (answerCount (closeOutcome c (length list) .answer)) (closeLeaves c list) ≡ closingCut c
     unfolding answerCount
     close-writes =
-        rw (answered c list refl (passes [] written c is) roomy, left c list refl (passes [] written c is) roomy)
+        rw (answered c list (passes [] written c is) roomy, left c list (passes [] written c is) roomy)
         (written-first (closingCut c) list (omega (arith, closing-few c)))
 
     -- the cuts written and the closing one are the log's
@@ -83,7 +86,7 @@ module _ (s : Settings) (log : List ℕ) (fine : inRange s ≡ true) (fits : len
   pass [] written c is none last lent =
       ap (λ l. written ++ l) (close-writes written c is last lent) ∙ all-cuts written c is last lent
   pass (k ∷ ks) written c is (more h hs) last lent =
-      ap (λ l. written ++ (l ++ writtenFrom (blockOf c (k .block) (length (k .list)) .carry) ks last)) (block-writes (k .block) (joined ks) written c is (k .list) h)
+      ap (λ l. written ++ (l ++ writtenFrom (blockOutcome c (k .block) (length (k .list)) .carry) ks last)) (block-writes (k .block) (joined ks) written c is (k .list) h)
       ∙ ap (λ o. written ++ (cutsIn c (k .block) ++ writtenFrom (o .carry) ks last)) (block-answers (k .block) (joined ks) written c is (k .list) h)
       ∙ sym (append-assoc written (cutsIn c (k .block)) (writtenFrom (blockTaken c (k .block)) ks last))
       ∙ pass ks (written ++ cutsIn c (k .block)) (blockTaken c (k .block)) (block-prefix s log (k .block) (joined ks) written c (ranges s fine) is) hs last lent
@@ -91,6 +94,6 @@ module _ (s : Settings) (log : List ℕ) (fine : inRange s ≡ true) (fits : len
 -- fresh, the blocks in turn and close write, joined, the cuts of the joined log
 pub single-pass : (s : Settings) (calls : List Lent) (last : List ℕ) → inRange s ≡ true → length (joined calls) ≤ longest
     → Roomy (s .minimum) calls → 1 ≤ length last → writtenBy s calls last ≡ cutList s (joined calls)
-unfolding writtenBy freshOf
+unfolding writtenBy freshOutcome freshRows verdict
 single-pass s calls last fine fits roomy lent =
     rw fine (pass s (joined calls) fine fits calls [] (freshCarry s) (fresh-prefix s (joined calls) (ranges s fine)) roomy last lent)

@@ -5,7 +5,7 @@ use lib.ListN.{length, take}
 use Rattle.terms.specs.declared.Settings.{Settings}
 use Rattle.terms.specs.Answers.{answerCount, roomFor}
 use Rattle.pass_carry.specs.declared.Carry.{Carry}
-use Rattle.pass.specs.Calls.{freshOf, blockOf, blockList, closeOf, closeList}
+use Rattle.pass.specs.Calls.{freshOutcome, blockOutcome, blockLeaves, closeOutcome, closeLeaves}
 
 -- a block, and the list that is lent with it
 pub record Lent : Type 0 where
@@ -24,10 +24,10 @@ pub data Roomy (minimum : ℕ) : List Lent → Type 0 where
 
 -- the entries written by the calls from the carry c on: a block each, and closing with the list last
 unfoldable pub writtenFrom : Carry → List Lent → List ℕ → List ℕ
-writtenFrom c [] last = take (answerCount (closeOf c (length last) .answer)) (closeList c last)
+writtenFrom c [] last = take (answerCount (closeOutcome c (length last) .answer)) (closeLeaves c last)
 writtenFrom c (k ∷ ks) last =
-    take (answerCount (blockOf c (k .block) (length (k .list)) .answer)) (blockList c (k .block) (k .list))
-    ++ writtenFrom (blockOf c (k .block) (length (k .list)) .carry) ks last
+    take (answerCount (blockOutcome c (k .block) (length (k .list)) .answer)) (blockLeaves c (k .block) (k .list))
+    ++ writtenFrom (blockOutcome c (k .block) (length (k .list)) .carry) ks last
 
 unfoldable pub writtenBy : Settings → List Lent → List ℕ → List ℕ
-writtenBy s ks last = writtenFrom (freshOf s .carry) ks last
+writtenBy s ks last = writtenFrom (freshOutcome s .carry) ks last

@@ -9,7 +9,7 @@ use Rattle.terms.specs.declared.Settings.{Settings}
 use Rattle.rule.specs.Rule.{firstMark}
 use Rattle.rule.proofs.First.{first-early, none-early, first-later}
 use Rattle.cutting.specs.Marks.{mark}
-use Rattle.pass_block.specs.Taking.{Heads, firstCut}
+use Rattle.pass_block.specs.Taking.{headOf, firstCut}
 use Rattle.pass_block.proofs.Seen.{shown, at-edge, inside}
 
 -- where the search inside the block starts, and what lies before that and before last
@@ -22,7 +22,7 @@ at-first first last edge q e a b below = omega arith
 -- first, last and edge are the search's bounds; the head is the window and the block's first bytes, and the search in it gave r
 module _ (s : Settings) (since : ℕ) (head block : List ℕ) (first last edge r : ℕ) (starts : first ≡ max (s .minimum - since) 1)
     (stops : last ≡ min (s .maximum - since) (length block)) (is-edge : edge ≡ min 48 last)
-    (room : length head ≡ 96) (heads : Heads head (take 48 head) block)
+    (room : length head ≡ 96) (heads : head ≡ headOf (take 48 head) block)
     (told : r ≡ firstMark (mark s head) (suc (48 + edge) - (48 + first)) (48 + first) (48 + edge)) where
   window-long : length (take 48 head) ≡ 48
   window-long = length-take-le 48 head (omega arith)

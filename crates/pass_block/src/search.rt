@@ -7,7 +7,7 @@ ghost use Prim.Native.Nat.{max, _-_, _<_};
 ghost use lib.ListN.{length, take};
 ghost use Rattle.terms.specs.Settings.{inRange};
 ghost use Rattle.signature.specs.Signatures.{leavingTable, pushedTable};
-ghost use Rattle.pass_block.specs.Taking.{Heads, firstCut};
+ghost use Rattle.pass_block.specs.Taking.{headOf, firstCut};
 use cutting::search::first_mark;
 use cutting::search::smaller;
 use terms::Settings;
@@ -40,7 +40,7 @@ pub fn first_cut(
     pushed: &[u32; 256],
 ) -> usize
     requires { ⌜ (inRange settings ≡ true) × (since < settings .maximum) ⌝ }
-    requires { ⌜ (length (now head) ≡ 96) × Heads (now head) (take 48 (now head)) (now block) ⌝ }
+    requires { ⌜ (length (now head) ≡ 96) × (now head ≡ headOf (take 48 (now head)) (now block)) ⌝ }
     requires { ⌜ (now leaving ≡ leavingTable) × (now pushed ≡ pushedTable) ⌝ }
     ensures { λ r. ⌜ r ≡ firstCut settings since (take 48 (now (head .entry)) ++ now (block .entry)) (length (now (block .entry))) ⌝ }
 {
