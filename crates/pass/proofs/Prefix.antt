@@ -1,7 +1,6 @@
 -- "This is the carry of that prefix": what a fresh carry starts, and a block keeps.
 use Prim.Native.Nat.{ℕ, suc, _+_, _-_, _≤_, _<_}
 use mathlib.Core.Path.{_≡_, refl, sym, ap, _∙_, subst}
-use mathlib.Core.Bool.{false}
 use mathlib.Core.List.{List, [], _++_, append-assoc}
 use native.Mathlib.Nat.{zero-add}
 use native.Mathlib.Omega.{arith}
@@ -31,7 +30,7 @@ onward s log = hop (mark s log) (s .minimum) (s .maximum)
 -- c is the carry of the log as far as rest, and these are the cuts written so far
 pub record CarryOf (s : Settings) (log rest written : List ℕ) (c : Carry) : Type 0 where
   pub same : c .settings ≡ s
-  pub open-still : c .closed ≡ false
+  pub open-still : c .closed ≡ 0
   pub here : c .taken + length rest ≡ length log
   pub whole : length (c .window) ≡ 48
   pub ahead : c .window ++ rest ≡ drop (c .taken) (padded log)

@@ -54,7 +54,7 @@ closedCarry c =
       since = c .since;
       window = c .window;
       signature = c .signature;
-      closed = true;
+      closed = 1;
     }
 
 -- close: 1, 3, 4, 5

@@ -20,7 +20,7 @@ fn untouched(settings: Settings) -> Carry
         since: 0,
         window: [0; 48],
         signature: 0,
-        closed: false,
+        closed: 0,
     }
 }
 
@@ -85,7 +85,7 @@ fn shut(carry: Carry) -> Carry
         since: carry.since,
         window: window,
         signature: carry.signature,
-        closed: true,
+        closed: 1,
     }
 }
 

@@ -2,6 +2,7 @@
 use Prim.Native.Nat.{ℕ}
 use mathlib.Core.Bool.{not}
 use mathlib.Core.List.{List, [], _∷_}
+use lib.Dec.{eqb}
 use Rattle.terms.specs.declared.Answer.the-variants.{Wrote, Refused}
 use Rattle.terms.specs.declared.Refusal.{Refusal}
 use Rattle.terms.specs.declared.Refusal.the-variants.{SettingsOutOfRange, CarryNotInOrder, CarryClosed}
@@ -23,5 +24,5 @@ unfoldable pub carryRows : Carry → List Row
 carryRows c =
     row SettingsOutOfRange (not (inRange (c .settings)))
     ∷ row CarryNotInOrder (not (inOrder c))
-    ∷ row CarryClosed (c .closed)
+    ∷ row CarryClosed (eqb (c .closed) 1)
     ∷ []

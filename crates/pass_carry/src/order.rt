@@ -52,6 +52,9 @@ pub fn in_order(carry: Carry) -> bool
     if taken > terms::LONGEST {
         return false;
     }
+    if carry.closed > 1 {
+        return false;
+    }
     true
 }
 
@@ -66,7 +69,7 @@ pub fn judge(carry: Carry) -> Verdict
     if !in_order(carry) {
         return Verdict::Wrong(Refusal::CarryNotInOrder);
     }
-    if carry.closed {
+    if carry.closed == 1 {
         return Verdict::Wrong(Refusal::CarryClosed);
     }
     Verdict::Fine

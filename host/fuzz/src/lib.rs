@@ -122,7 +122,12 @@ fn block(input: &mut Input) {
     if (choices / 4).is_multiple_of(8) {
         signature ^= u32::from_le_bytes(input.bytes());
     }
-    let carry = Carry { settings, taken, since, window, signature, closed: choices >= 240 };
+    let closed = match choices {
+        0..240 => 0,
+        240..252 => 1,
+        other => other.into(),
+    };
+    let carry = Carry { settings, taken, since, window, signature, closed };
     let list = input.list(inputs::room(&settings, input.0.len() as u64));
     compare::block(carry, input.0, &list);
     compare::close(carry, &list);

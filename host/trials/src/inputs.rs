@@ -196,7 +196,7 @@ pub fn carry(noise: &mut Noise, settings: Settings) -> Carry {
     let before_the_log = 48_u64.saturating_sub(taken) as usize;
     window[..before_the_log].fill(0);
     let signature = second::remainder(&window) as u32;
-    Carry { settings, taken, since, window, signature, closed: noise.once_in(10) }
+    Carry { settings, taken, since, window, signature, closed: noise.once_in(10).into() }
 }
 
 /// Alters one field of a carry.
@@ -207,7 +207,7 @@ pub fn damage_carry(noise: &mut Noise, carry: &mut Carry) {
         2 => carry.since = noise.pick(&[carry.taken, carry.taken.wrapping_add(1), carry.settings.maximum, 1 << 40]),
         3 => carry.window[noise.below(48) as usize] ^= 1 << noise.below(8),
         4 => carry.signature ^= 1 << noise.below(32),
-        _ => carry.closed = !carry.closed,
+        _ => carry.closed = noise.pick(&[0, 1, 2, 255, 256, 1 << 31, u32::MAX]),
     }
 }
 
