@@ -3,21 +3,21 @@ use Prim.Native.Nat.{ℕ, _+_, _≤_, _<_}
 use mathlib.Core.Path.{_≡_, sym, ap, _∙_}
 use mathlib.Core.List.{List, [], _∷_}
 use native.Mathlib.Omega.{arith}
-use lib.ListN.{length}
+use lib.ListN.{length, take}
 use lib.Seq.{take-all}
-use borrow.Author.Tests.{le-ltb}
+use borrow.Author.Tests.{le-ltb, ltb-false}
 use Rattle.terms.specs.declared.Verdict.the-variants.{Fine}
-use Rattle.terms.specs.Answers.{longest, roomFor}
+use Rattle.terms.specs.Answers.{answerCount, longest, roomFor}
 use Rattle.terms.specs.Rows.{verdict}
-use Rattle.terms.proofs.Verdicts.{Reaches, top, past, skips, reached}
+use Rattle.terms.proofs.Verdicts.{Reaches, top, past, skips, reached, clear, both-clear}
 use Rattle.cutting.specs.WholeLog.{guard, writtenList}
-use Rattle.cutting.proofs.Written.{written-none}
+use Rattle.cutting.proofs.Written.{written-none, written-first}
 use Rattle.pass_carry.specs.declared.Carry.{Carry}
 use Rattle.pass_carry.specs.Carries.{blockTaken, cutsIn}
 use Rattle.pass_carry.specs.Outcomes.{wrote, carryRows}
 use Rattle.pass_carry.proofs.Room.{enough-room}
 use Rattle.pass_block.specs.Taking.{takenOutcome}
-use Rattle.pass.specs.Calls.{blockRows}
+use Rattle.pass.specs.Calls.{blockRows, blockOutcome, blockLeaves}
 
 -- no bytes: nothing is taken and nothing written
 pub block-empty : (c : Carry) (block list : List ℕ) → length block ≡ 0
@@ -45,3 +45,17 @@ module _ (c : Carry) (block : List ℕ) (room : ℕ) (admitted : verdict (carryR
     where
       unguarded : verdict (guard (cutsIn c block) room ∷ []) ≡ Fine
       unguarded = unfold verdict in rw (le-ltb room (length (cutsIn c block)) (omega (arith, lent, enough-room block c positive)))
+
+-- a block that no row refuses: what it answers, and the entries that it says it wrote
+module _ (c : Carry) (block list : List ℕ) (fine : verdict (blockRows c block (length list)) ≡ Fine) where
+  pub block-answers : blockOutcome c block (length list) ≡ wrote (blockTaken c block) (length (cutsIn c block))
+  unfolding blockOutcome
+  block-answers = rw fine
+
+  roomy : length (cutsIn c block) ≤ length list
+  unfolding blockRows
+  roomy = ltb-false _ _ (clear _ _ _ (clear _ _ _ (clear _ _ _ (both-clear (carryRows c) _ fine .1) .1) .1) .0)
+
+  pub block-writes : take (answerCount (blockOutcome c block (length list) .answer)) (blockLeaves c block list) ≡ cutsIn c block
+  unfolding answerCount blockLeaves
+  block-writes = rw (block-answers, fine) (written-first (cutsIn c block) list roomy)

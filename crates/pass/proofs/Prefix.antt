@@ -39,7 +39,7 @@ pub record CarryOf (s : Settings) (log rest written : List ℕ) (c : Carry) : Ty
   pub tied : last + c .since ≡ c .taken
   pub cuts : UpTo (onward s log) (c .taken) 0 written last
 
-rises : (s : Settings) (log : List ℕ) → Ranges s → (m : ℕ) → m < onward s log m
+pub rises : (s : Settings) (log : List ℕ) → Ranges s → (m : ℕ) → m < onward s log m
 rises s log ok = hop-rises (mark s log) (s .minimum) (s .maximum) (omega (arith, ok .window-fits)) (ok .ordered)
 
 pub fresh-prefix : (s : Settings) (log : List ℕ) → Ranges s → CarryOf s log log [] (freshCarry s)

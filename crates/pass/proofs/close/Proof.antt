@@ -5,7 +5,7 @@ use mathlib.Core.Path.{_≡_, sym, ap, _∙_}
 use Rattle.terms.specs.declared.Verdict.the-variants.{Fine}
 use Rattle.terms.specs.Rows.{verdict}
 use Rattle.pass_carry.specs.Outcomes.{wrote, carryRows}
-use Rattle.pass.proofs.Closing.{close-wrong, close-judged, close-short, close-writes, close-stays}
+use Rattle.pass.proofs.Closing.{close-wrong, close-judged, close-short, close-fine, close-writes, close-stays}
 use Rattle.pass.proofs.close.Statement.{statement}
 use Rattle.pass.proofs.close.Tie as tie
 
@@ -31,13 +31,13 @@ returns-2 c =
 returns-3 : tie.Need-returns-3
 returns-3 c =
     let at = c .before .before .before .before in
-    let done = close-writes _ (now (entry at .args .list)) (admitted at) (c .before .before .before .if1 .left) (c .before .if2 .taken) in
+    let done = close-writes _ (now (entry at .args .list)) (close-fine _ _ (admitted at) (c .before .before .before .if1 .left)) (c .before .if2 .taken) in
     (ap (λ k. wrote k 1) (c .shut .ensures) ∙ done .0, done .1)
 
 returns-4 : tie.Need-returns-4
 returns-4 c =
     let at = c .before .before .before .before in
-    let done = close-stays _ (now (entry at .args .list)) (admitted at) (c .before .before .before .if1 .left) (c .before .if2 .left) in
+    let done = close-stays _ (now (entry at .args .list)) (close-fine _ _ (admitted at) (c .before .before .before .if1 .left)) (c .before .if2 .left) in
     (ap (λ k. wrote k 0) (c .shut2 .ensures) ∙ done .0, done .1)
 
 pub close-spec : {M : Type 1} → statement M
