@@ -55,7 +55,7 @@ module _ (c : Carry) (list : List ℕ) (fine : verdict (closeRows c (length list
   unfolding closeOutcome
   answered = rw fine
 
-  left : closeLeaves c list ≡ writtenList (closingCut c) list
+  pub left : closeLeaves c list ≡ writtenList (closingCut c) list
   unfolding closeLeaves
   left = rw fine
 
@@ -63,7 +63,7 @@ module _ (c : Carry) (list : List ℕ) (fine : verdict (closeRows c (length list
   unfolding closeRows
   room = ltb-false _ _ (clear _ _ _ (both-clear (carryRows c) _ fine .1) .0)
 
-  fits : length (closingCut c) ≤ length list
+  pub fits : length (closingCut c) ≤ length list
   fits = omega (arith, room, closing-few c)
 
   -- the entries that closing says it wrote

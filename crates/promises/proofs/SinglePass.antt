@@ -32,11 +32,13 @@ use Rattle.pass_carry.specs.Carries.{allZero, inOrder, freshCarry, cutsIn, bloc
 use Rattle.pass_carry.specs.Outcomes.{refused, wrote, carryRows}
 use Rattle.pass.specs.Calls.{noCarry, freshRows, freshOutcome, blockRows, blockOutcome, blockLeaves, closingCut, closedCarry, closeRows, closeOutcome, closeLeaves}
 use Rattle.pass.specs.SinglePass.{Lent, joined, carryAfter, blocksWritten, writtenBy, Unrefused, NoneRefused, Roomy}
+use Rattle.cutting.proofs.Written.{written-whole}
 use Rattle.pass.proofs.Prefix.{onward, rises}
+use Rattle.pass.proofs.Closing.{left, fits}
 use Rattle.pass.proofs.SinglePass as pass
 use Rattle.promises.specs.OneList.{Lists}
 use Rattle.promises.specs.SinglePass.{numbered, InOrder, zeroCarry, HandsBack, lastBytes, CarryOf}
-use Rattle.promises.proofs.Successes.{wrote-all}
+use Rattle.promises.proofs.Successes.{succeeds, wrote-all}
 
 -- the rows of each call in document 01's order
 pub fresh-table : (s : Settings) → numbered (freshRows s) ≡ (1, not (inRange s)) ∷ []
@@ -174,6 +176,15 @@ module _ (c : Carry) (list : List ℕ) {k : ℕ} (e : closeOutcome c (length lis
       ≡ record { settings = c .settings; taken = c .taken; since = c .since; window = c .window; signature = c .signature; closed = 1 }
   unfolding closeOutcome
   closing-closes = rw close-fine
+
+  pub close-written : Lists list (closeLeaves c list) (closingCut c) k
+  unfolding closeOutcome
+  close-written =
+      let v = verdict (closeRows c (length list)) in
+      record {
+        counted = sym (succeeds v (length (closingCut c)) (sym (through answerOf v (refused c) (wrote (closedCarry c) _)) ∙ e) .1);
+        written = left c list close-fine ∙ written-whole (closingCut c) list (fits c list close-fine);
+      }
 
 -- the carry once blocks of any lengths are taken is that of their bytes, part by part, and the cuts written are those known by then
 pub carry-of-blocks : (s : Settings) (calls : List Lent) → freshOutcome s .answer ≡ Wrote 0 → Unrefused (freshOutcome s .carry) calls

@@ -138,7 +138,7 @@ fn the_calls_are_declared_alike() {
 #[test]
 fn the_structs_are_declared_alike() {
     let names = ["Settings", "Carry", "Outcome", "Passed", "Amendment", "Reading"];
-    let mut exported = rust_structs(&["terms", "carry", "thrunglow"].map(library).concat());
+    let mut exported = rust_structs(&["terms", "pass_carry", "thrunglow"].map(library).concat());
     exported.retain(|name, _| names.contains(&name.as_str()));
     assert_eq!(exported.len(), names.len(), "{:?}", exported.keys());
     assert_eq!(c_structs(&header()), exported);
