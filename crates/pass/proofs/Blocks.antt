@@ -10,8 +10,8 @@ use Rattle.terms.specs.declared.Verdict.the-variants.{Fine}
 use Rattle.terms.specs.Answers.{answerCount, longest, roomFor}
 use Rattle.terms.specs.Rows.{verdict}
 use Rattle.terms.proofs.Verdicts.{Reaches, top, past, skips, reached, clear, both-clear}
-use Rattle.cutting.specs.WholeLog.{guard, writtenList}
-use Rattle.cutting.proofs.Written.{written-none, written-first}
+use Rattle.lists.specs.Written.{guard, writtenList}
+use Rattle.lists.proofs.Written.{written-none, written-first}
 use Rattle.pass_carry.specs.declared.Carry.{Carry}
 use Rattle.pass_carry.specs.Carries.{blockTaken, cutsIn}
 use Rattle.pass_carry.specs.Outcomes.{wrote, carryRows}

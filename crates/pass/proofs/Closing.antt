@@ -14,8 +14,8 @@ use Rattle.terms.specs.declared.Verdict.the-variants.{Fine, Wrong}
 use Rattle.terms.specs.Answers.{answerCount}
 use Rattle.terms.specs.Rows.{verdict}
 use Rattle.terms.proofs.Verdicts.{top, past, joined, skips, judged-wrong, judged-fine, clear, both-clear}
-use Rattle.cutting.specs.WholeLog.{writtenList}
-use Rattle.cutting.proofs.Written.{written-none, written-first, written-whole}
+use Rattle.lists.specs.Written.{writtenList}
+use Rattle.lists.proofs.Written.{written-none, written-first, written-whole}
 use Rattle.pass_carry.specs.declared.Carry.{Carry}
 use Rattle.pass_carry.specs.Outcomes.{refused, wrote, carryRows}
 use Rattle.pass.specs.Calls.{closingCut, closedCarry, closeRows, closeOutcome, closeLeaves}

@@ -40,7 +40,7 @@ pub record CarryOf (s : Settings) (log rest written : List ℕ) (c : Carry) : Ty
   pub cuts : UpTo (onward s log) (c .taken) 0 written last
 
 pub rises : (s : Settings) (log : List ℕ) → Ranges s → (m : ℕ) → m < onward s log m
-rises s log ok = hop-rises (mark s log) (s .minimum) (s .maximum) (omega (arith, ok .window-fits)) (ok .ordered)
+rises s log ok = hop-rises (mark s log) (s .minimum) (s .maximum) (ok .positive) (ok .ordered)
 
 pub fresh-prefix : (s : Settings) (log : List ℕ) → Ranges s → CarryOf s log log [] (freshCarry s)
 unfolding freshCarry

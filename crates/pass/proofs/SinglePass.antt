@@ -8,7 +8,7 @@ use native.Mathlib.Nat.{add-zero}
 use native.Mathlib.Omega.{arith}
 use lib.ListN.{length, length-append}
 use borrow.Author.Tests.{not-false}
-use Rattle.laws.proofs.Cases.{by-lt}
+use Rattle.laws.proofs.Cases.{by-lt, impossible}
 use Rattle.terms.specs.declared.Settings.{Settings}
 use Rattle.terms.specs.declared.Answer.the-variants.{Wrote}
 use Rattle.terms.specs.declared.Verdict.{Verdict}
@@ -36,7 +36,7 @@ use Rattle.pass.proofs.Ordered.{in-order}
 -- a call that wrote was refused by no row
 pub succeeds : (v : Verdict) (c after : Carry) (n : ℕ) {k : ℕ} → ruled v (refused c) (wrote after n) .answer ≡ Wrote k → v ≡ Fine
 succeeds Fine c after n e = refl
-succeeds (Wrong why) c after n e = absurd (let z : _≡_ {A = ℕ} 0 1 = cc in omega arith)
+succeeds (Wrong why) c after n e = impossible (cc)
 
 pub fresh-succeeds : (s : Settings) {k : ℕ} → freshOutcome s .answer ≡ Wrote k → (inRange s ≡ true) × (freshOutcome s .carry ≡ freshCarry s)
 unfolding freshOutcome freshRows
@@ -76,7 +76,7 @@ module _ (s : Settings) (log : List ℕ) (ok : Ranges s) where
     all-cuts : written ++ closingCut c ≡ cutList s log
     all-cuts =
         ap (λ l. written ++ l) closing-is
-        ∙ sym (cuts-by-hops (mark s log) (s .minimum) (s .maximum) (omega (arith, ok .window-fits)) (ok .ordered) (length log)
+        ∙ sym (cuts-by-hops (mark s log) (s .minimum) (s .maximum) (ok .positive) (ok .ordered) (length log)
         (subst (λ n. UpTo (onward s log) n 0 written (is .last)) whole (is .cuts)))
 
 -- where fresh and the blocks are not refused, the carry is that of the joined log
@@ -108,7 +108,7 @@ module _ (s : Settings) (log : List ℕ) (fine : inRange s ≡ true) (fits : len
       → verdict (blockRows c block (length list)) ≡ Fine
   block-passes block after written c is list roomy =
       let lent : roomFor (c .settings .minimum) (length block) ≤ length list = rw (is .same) roomy in
-      let positive : 0 < c .settings .minimum = rw (is .same) (omega (arith, ranges s fine .window-fits)) in
+      let positive : 0 < c .settings .minimum = rw (is .same) (ranges s fine .positive) in
       block-fine c block (length list) (passes (block ++ after) written c is) (omega (arith, is .here, length-append block after)) lent positive
 
   goes : (calls : List Lent) (written : List ℕ) (c : Carry) → CarryOf s log (joined calls) written c → Roomy (s .minimum) calls → Unrefused c calls

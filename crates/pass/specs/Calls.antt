@@ -6,10 +6,10 @@ use lib.Dec.{ltb}
 use lib.ListN.{length}
 use Rattle.terms.specs.declared.Settings.{Settings}
 use Rattle.terms.specs.declared.Refusal.the-variants.{SettingsOutOfRange, LogTooLong, RoomTooShort, ListFull}
-use Rattle.terms.specs.Settings.{inRange}
+use Rattle.terms.specs.Settings.{inRange, noSettings}
 use Rattle.terms.specs.Answers.{longest, roomFor}
 use Rattle.terms.specs.Rows.{Row, row, verdict, ruled, leaves}
-use Rattle.cutting.specs.WholeLog.{guard, writtenList}
+use Rattle.lists.specs.Written.{guard, writtenList}
 use Rattle.pass_carry.specs.declared.Carry.{Carry}
 use Rattle.pass_carry.specs.declared.Outcome.{Outcome}
 use Rattle.pass_carry.specs.Carries.{freshCarry, blockTaken, cutsIn}
@@ -17,7 +17,7 @@ use Rattle.pass_carry.specs.Outcomes.{refused, wrote, carryRows}
 
 -- a carry with every part 0
 abbrev pub noCarry : Carry
-noCarry = freshCarry (record { bits = 0; target = 0; minimum = 0; maximum = 0 })
+noCarry = freshCarry noSettings
 
 -- fresh: 1
 unfoldable pub freshRows : (settings : Settings) → List Row

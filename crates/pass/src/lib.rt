@@ -29,15 +29,9 @@ pub fn fresh(settings: Settings) -> Outcome
     ensures answer { λ r. ⌜ r ≡ freshOutcome settings ⌝ }
 {
     if !settings.in_range() {
-        let nothing = Settings {
-            bits: 0,
-            target: 0,
-            minimum: 0,
-            maximum: 0,
-        };
         return Outcome {
             answer: Answer::Refused(Refusal::SettingsOutOfRange),
-            carry: untouched(nothing),
+            carry: untouched(Settings::none()),
         };
     }
     Outcome {

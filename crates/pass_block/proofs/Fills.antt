@@ -70,14 +70,14 @@ module _ (c : Carry) (block : List ℕ) (ok : Usable c) (some : 0 < length block
       }
 
   rises : (m : ℕ) → m < onward c block m
-  rises = hop-rises (seenBy c block) (c .settings .minimum) (c .settings .maximum) (omega (arith, ok .ranged .window-fits)) (ok .ranged .ordered)
+  rises = hop-rises (seenBy c block) (c .settings .minimum) (c .settings .maximum) (ok .ranged .positive) (ok .ranged .ordered)
 
   -- the next cut moves on, but at the block's end
   moves : {next r : ℕ} → next ≤ length block → r ≡ nextCut (c .settings) block next → (next ≤ r) × (r ≤ length block) × (next < length block → next < r)
   moves {next} {r} h e =
       let step = next-step (mark (c .settings) block) (c .settings .minimum) (c .settings .maximum) (length block) next (ok .ranged .ordered) in
       by-lt next (length block)
-      (λ k. let up : next < nextCut (c .settings) block next = step .onward (omega (arith, ok .ranged .window-fits)) k in (omega arith, omega (arith, step .inside), λ z. omega arith))
+      (λ k. let up : next < nextCut (c .settings) block next = step .onward (ok .ranged .positive) k in (omega arith, omega (arith, step .inside), λ z. omega arith))
       (λ k. by-lt r (length block) (λ j. absurd (omega (arith, step .at-least (omega arith)))) (λ j. (omega arith, omega (arith, step .inside), λ z. absurd (omega arith))))
 
   module _ {list₀ list : List ℕ} {count cut next : ℕ} (f : Filling c block list₀ list count cut next) (signature : ℕ) (is-signature : signature ≡ signatureOf (slidBy (c .window) block)) where

@@ -13,7 +13,7 @@ use Rattle.lists.specs.declared.Made.{Made}
 use Rattle.lists.specs.Puts.{Puts}
 use Rattle.lists.proofs.Putting.{puts-long}
 use Rattle.signature.specs.Signatures.{signatureOf}
-use Rattle.cutting.specs.WholeLog.{writtenList}
+use Rattle.lists.specs.Written.{writtenList}
 use Rattle.pass_carry.specs.declared.Carry.{Carry}
 use Rattle.pass_carry.specs.Carries.{slidBy, blockTaken, cutsIn}
 use Rattle.pass_carry.specs.Outcomes.{refused, wrote}

@@ -9,7 +9,7 @@ use Rattle.terms.specs.Rows.{verdict, ruled}
 use Rattle.rule.specs.Rule.{firstMark}
 use Rattle.lists.specs.declared.Made.{Made}
 use Rattle.cutting.specs.Marks.{matches, mark}
-use Rattle.cutting.specs.WholeLog.{guard}
+use Rattle.lists.specs.Written.{guard}
 use Rattle.pass_carry.specs.declared.Carry.{Carry}
 use Rattle.pass_carry.specs.declared.Outcome.{Outcome}
 use Rattle.pass_carry.specs.Carries.{blockTaken, cutsIn}

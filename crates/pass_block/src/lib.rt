@@ -5,7 +5,7 @@ ghost use Prim.Native.Nat.{_+_, _≤_, _<_};
 ghost use lib.ListN.{length};
 ghost use Rattle.terms.specs.Settings.{inRange};
 ghost use Rattle.terms.specs.Answers.{longest};
-ghost use Rattle.cutting.specs.WholeLog.{writtenList};
+ghost use Rattle.lists.specs.Written.{writtenList};
 ghost use Rattle.pass_carry.specs.Carries.{inOrder, cutsIn};
 ghost use Rattle.pass_block.specs.Taking.{advancedBy, takenOutcome};
 use pass_carry::Carry;
@@ -40,15 +40,14 @@ pub fn take_block(carry: Carry, block: &[u8], list: &mut [u64]) -> Outcome
     ensures answer { λ r. ⌜ r ≡ takenOutcome carry (now (block .entry)) (length (now (list .entry))) ⌝ }
     ensures list { λ _. ⌜ now (list .exit) ≡ writtenList (cutsIn carry (now (block .entry))) (now (list .entry)) ⌝ }
 {
-    let leaving = signature::tables::leaving();
-    let pushed = signature::tables::pushed();
+    let tables = signature::tables();
     let settings = carry.settings;
     let window = carry.window;
     let both = window::joined(window, block);
-    let first = search::first_cut(settings, carry.since, &both, block, &leaving, &pushed);
+    let first = search::first_cut(settings, carry.since, &both, block, &tables);
     let slid = window::slide(&both, block);
-    let signature = signature::of_window(&slid, 0, &pushed);
-    let made = filling::fill(carry, first, signature, block, list, &leaving, &pushed);
+    let signature = signature::of_window(&slid, 0, &tables);
+    let made = filling::fill(carry, first, signature, block, list, &tables);
     let count = made.count;
     if count > list.len() as u64 {
         return pass_carry::refuse(carry, Refusal::ListFull);

@@ -40,8 +40,8 @@ pub fn in_order(carry: Carry) -> bool
         return false;
     }
     let window = carry.window;
-    let pushed = signature::tables::pushed();
-    let signature = signature::of_window(&window, 0, &pushed);
+    let tables = signature::tables();
+    let signature = signature::of_window(&window, 0, &tables);
     if carry.signature != signature {
         return false;
     }

@@ -25,14 +25,14 @@ use Rattle.rule.specs.Rule.{cutsUpTo}
 use Rattle.rule.proofs.Hops.{listed, last-is}
 use Rattle.signature.specs.Signatures.{signatureOf}
 use Rattle.cutting.specs.Marks.{cutList}
-use Rattle.cutting.specs.WholeLog.{writtenList}
+use Rattle.lists.specs.Written.{writtenList}
 use Rattle.pass_carry.specs.declared.Carry.{Carry}
 use Rattle.pass_carry.specs.declared.Outcome.{Outcome}
 use Rattle.pass_carry.specs.Carries.{allZero, inOrder, freshCarry, cutsIn, blockTaken}
 use Rattle.pass_carry.specs.Outcomes.{refused, wrote, carryRows}
 use Rattle.pass.specs.Calls.{noCarry, freshRows, freshOutcome, blockRows, blockOutcome, blockLeaves, closingCut, closedCarry, closeRows, closeOutcome, closeLeaves}
 use Rattle.pass.specs.SinglePass.{Lent, joined, carryAfter, blocksWritten, writtenBy, Unrefused, NoneRefused, Roomy}
-use Rattle.cutting.proofs.Written.{written-whole}
+use Rattle.lists.proofs.Written.{written-whole}
 use Rattle.pass.proofs.Prefix.{onward, rises}
 use Rattle.pass.proofs.Closing.{left, fits}
 use Rattle.pass.proofs.SinglePass as pass

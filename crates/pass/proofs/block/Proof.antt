@@ -11,7 +11,7 @@ use Rattle.terms.specs.declared.Refusal.the-variants.{ListFull}
 use Rattle.terms.specs.declared.Verdict.the-variants.{Fine}
 use Rattle.terms.specs.Rows.{verdict}
 use Rattle.terms.proofs.Verdicts.{Reaches, top, past, skips, stopped, stopped-in, wrote}
-use Rattle.cutting.specs.WholeLog.{guard}
+use Rattle.lists.specs.Written.{guard}
 use Rattle.pass_carry.specs.Carries.{cutsIn}
 use Rattle.pass_carry.specs.Outcomes.{refused, carryRows}
 use Rattle.pass_carry.proofs.Rows.{plain-carry, passed}

@@ -23,7 +23,7 @@ sound c = let whole : length (c .args .carry .window) ≡ 48 = search needs in u
 
 -- the places looked back to, from the last to the first
 abbrev signed : tie.After-fill → tie.After-of-window
-signed c = c .before .before .before .before
+signed c = c .before .before .before
 
 abbrev slid : tie.After-of-window → tie.After-slide
 slid c = c .before .before .before
@@ -32,10 +32,13 @@ abbrev searched : tie.After-slide → tie.After-first-cut
 searched c = c .before .before
 
 abbrev headed : tie.After-first-cut → tie.After-joined
-headed c = c .before .before .before .before
+headed c = c .before .before .before
+
+abbrev tabled : tie.After-joined → tie.After-tables
+tabled c = c .before .before .before
 
 abbrev entry : tie.After-joined → tie.Start
-entry c = c .before .before .before .before .before .before .before
+entry c = tabled c .before .before .before
 
 abbrev entry-of : tie.After-of-window → tie.Start
 entry-of c = entry (headed (searched (slid c)))
@@ -70,19 +73,19 @@ signature-is c =
 
 first-cut-requires : tie.Need-first-cut-requires
 first-cut-requires c κs =
-    let at = c .before .before .before in
+    let at = c .before .before in
     let start = entry at in
-    ((start .pre .0 .0, sound start .below), (head-is at, (at .before .before .before .before .leaving .ensures, at .before .before .before .pushed .ensures)))
+    ((start .pre .0 .0, sound start .below), (head-is at, tabled at .tables .ensures))
 
 slide-requires : tie.Need-slide-requires
 slide-requires c κs = head-is (headed (c .before))
 
 fill-requires : tie.Need-fill-requires
 fill-requires c κs =
-    let at = c .before .before .before in
+    let at = c .before .before in
     let head = headed (searched (slid at)) in
     let start = entry head in
-    (start .pre .0, (start .pre .1, (first-is (searched (slid at)), (signature-is at, (head .before .before .before .before .leaving .ensures, head .before .before .before .pushed .ensures)))))
+    (start .pre .0, (start .pre .1, (first-is (searched (slid at)), (signature-is at, tabled head .tables .ensures))))
 
 returns : tie.Need-returns
 returns c =
@@ -121,7 +124,6 @@ pub take-block-spec : {M : Type 1} → statement M
 take-block-spec =
     tie.close
     (tie.spec
-    (λ c κs. search needs)
     (λ c κs. search needs)
     (λ c κs. search needs)
     first-cut-requires

@@ -15,10 +15,10 @@ use Rattle.pass_block.proofs.filling.fill.Statement.{statement}
 use Rattle.pass_block.proofs.filling.fill.Tie as tie
 
 abbrev Inv-loop : tie.InvT-loop
-Inv-loop carry first signature block list₀ leaving pushed settings count₀ cut₀ next₀ list count cut next = Filling carry block list₀ list count cut next
+Inv-loop carry first signature block list₀ tables settings count₀ cut₀ next₀ list count cut next = Filling carry block list₀ list count cut next
 
 abbrev μ-loop : tie.MeasureT-loop
-μ-loop carry first signature block list₀ leaving pushed settings count₀ cut₀ next₀ list count cut next = length block - next + min (carry .taken + next - cut) 1
+μ-loop carry first signature block list₀ tables settings count₀ cut₀ next₀ list count cut next = length block - next + min (carry .taken + next - cut) 1
 
 sound : (c : tie.Start Inv-loop μ-loop) → Usable (c .args .carry)
 sound c = let whole : length (c .args .carry .window) ≡ 48 = search needs in usable (c .args .carry) (c .pre .0 .0) (c .pre .0 .1) whole

@@ -45,7 +45,7 @@ unfolding inOrder
 returns-2 c = rw (le-leb _ _ (c .before .before .if1 .left), le-ltb _ _ (c .if2 .taken))
 
 of-window-requires : tie.Need-of-window-requires
-of-window-requires c κs = (omega (arith, whole (entry (c .before .before .before .before))), c .before .before .pushed .ensures)
+of-window-requires c κs = (omega (arith, whole (entry (c .before .before .before .before))), c .before .before .tables .ensures)
 
 -- what is left past the bytes since the last cut
 past-since : (c : tie.Else2)
