@@ -38,14 +38,15 @@ typedef struct {
     uint64_t maximum;
 } thrunglow_Settings;
 
-/* What the single pass keeps between two blocks. `closed` is 0 or 1 and no other byte. */
+/* What the single pass keeps between two blocks. `closed` is 0 while it is open and 1 once it is closed; a carry with any other number
+ * is not in order. */
 typedef struct {
     thrunglow_Settings settings;
     uint64_t taken;
     uint64_t since;
     uint8_t window[48];
     uint32_t signature;
-    bool closed;
+    uint32_t closed;
 } thrunglow_Carry;
 
 /* The entries or bytes written. */
