@@ -14,7 +14,7 @@ use Rattle.lists.proofs.Reaching.{Reaches}
 use Rattle.cutting.specs.Marks.{mark}
 use Rattle.cutting.proofs.Reaching.{cuts-reach}
 use Rattle.amending.specs.declared.edits.Edit.{Edit}
-use Rattle.amending.specs.Parts.{front, pastFront, restart, recut, back, amendedList}
+use Rattle.amending.specs.Parts.{front, pastFront, restart, recut, back, amendedList, stretchEnd}
 use Rattle.amending.specs.Told.{FrontTold, Recut}
 use Rattle.amending.specs.Answers.{newCutsOf, editFits}
 use Rattle.amending.proofs.Fitting.{edit-told}
@@ -24,10 +24,11 @@ use Rattle.amending.proofs.Chained.{well-formed-again, new-length, meet
 module _ (settings : Settings) (old : List ℕ) (edit : Edit) (log : List ℕ) (ok : inRange settings ≡ true)
     (formed : wellFormed (settings .minimum) (settings .maximum) old ≡ true) where
   -- the three parts are what document 01 says
-  pub amended-parts : FrontTold (edit .at) old (front (edit .at) old) (pastFront (edit .at) old)
-      × Recut edit (pastFront (edit .at) old) (newCutsOf settings log (restart (edit .at) old)) (recut (newCutsOf settings log) old edit) (back (newCutsOf settings log) old edit)
-  unfolding recut back
-  amended-parts = (front-told (settings .minimum) (settings .maximum) (edit .at) old formed, recut-told edit (pastFront (edit .at) old) (newCutsOf settings log (restart (edit .at) old)))
+  pub amended-parts : FrontTold (edit .at) old (front (edit .at) old) (pastFront (edit .at) old) (restart (edit .at) old)
+      × Recut edit (pastFront (edit .at) old) (length log) (newCutsOf settings log (restart (edit .at) old)) (recut (newCutsOf settings log) old edit) (back (newCutsOf settings log) old edit)
+      (stretchEnd (newCutsOf settings log) old edit (length log))
+  unfolding recut back stretchEnd
+  amended-parts = (front-told (settings .minimum) (settings .maximum) (edit .at) old formed, recut-told edit (pastFront (edit .at) old) (length log) (newCutsOf settings log (restart (edit .at) old)))
 
   module _ (fits : editFits (lengthOf old) edit (length log) ≡ true) where
     reach : (c : ℕ) → c ≤ length log → Reaches (settings .minimum) (settings .maximum) (length log) c (newCutsOf settings log c)

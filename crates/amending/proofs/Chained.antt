@@ -12,20 +12,20 @@ use Rattle.laws.specs.Last.{lastOr}
 use Rattle.lists.specs.WellFormed.{isEmpty, wellFormed, lengthOf}
 use Rattle.lists.proofs.Reaching.{Reaches, there, step, reaches, fits, reaches-last, reaches-after, reaches-on}
 use Rattle.amending.specs.declared.edits.Edit.{Edit}
-use Rattle.amending.specs.Parts.{front, pastFront, restart, before, since, wasAt, meets, moved, backFrom, recut, back, amendedList}
-use Rattle.amending.proofs.Split.{Split, here, later, split, joined, heads, since-is}
+use Rattle.amending.specs.Parts.{front, pastFront, restart, until, from, wasAt, meets, moved, backFrom, recut, back, amendedList}
+use Rattle.amending.proofs.Split.{Split, here, later, split, joined, heads, from-is}
 use Rattle.amending.proofs.Front.{front-is, front-joined, restarts-low, past-some}
 use Rattle.amending.proofs.Meets.{placed}
 
 -- a test that the last entry passes is passed somewhere
-finds : (test : ℕ → Bool) (b : ℕ) (l : List ℕ) → 0 < length l → test (lastOr b l) ≡ true → isEmpty (since test l) ≡ false
+finds : (test : ℕ → Bool) (b : ℕ) (l : List ℕ) → 0 < length l → test (lastOr b l) ≡ true → isEmpty (from test l) ≡ false
 unfolding isEmpty lastOr
 finds test b [] some h = absurd (omega arith)
-finds test b (x ∷ []) some h = rw (since-is test (here {r = []} h))
+finds test b (x ∷ []) some h = rw (from-is test (here {r = []} h))
 finds test b (x ∷ y ∷ l) some h =
     by-test (test x)
-    (λ e. rw (since-is test (here {r = y ∷ l} e)))
-    (λ e. rw (since-is test (later e (split test (y ∷ l)))) (finds test x (y ∷ l) (omega arith) h))
+    (λ e. rw (from-is test (here {r = y ∷ l} e)))
+    (λ e. rw (from-is test (later e (split test (y ∷ l)))) (finds test x (y ∷ l) (omega arith) h))
 
 goes-on : {lo hi z b : ℕ} {l : List ℕ} → Reaches lo hi z b l → b < z → 0 < length l
 goes-on there h = absurd (omega arith)
@@ -55,17 +55,17 @@ module _ (lo hi n′ : ℕ) (edit : Edit) (newCuts : ℕ → List ℕ) (reach : 
 
   -- the recut and the back go on from the restart to the new end
   tail-reaches : (c : ℕ) (past news r : List ℕ) → Reaches lo hi (lengthOf old) c past → Reaches lo hi n′ c news
-      → Split (meets edit past) news (before (meets edit past) news) r → Reaches lo hi n′ c (before (meets edit past) news ++ backFrom edit past r)
+      → Split (meets edit past) news (until (meets edit past) news) r → Reaches lo hi n′ c (until (meets edit past) news ++ backFrom edit past r)
   unfolding backFrom moved
   tail-reaches c past news [] old-run new-run parts = rw (joined parts) new-run
   tail-reaches c past news (t ∷ after) old-run new-run parts =
       let (x, rest, at) = placed edit past t (heads parts) in
-      let new-halves : Reaches lo hi n′ c (before (meets edit past) news ++ (t ∷ after)) = rw (joined parts) new-run in
-      let old-halves : Reaches lo hi (lengthOf old) c (before (wasAt edit t) past ++ (x ∷ rest)) = rw (at .whole) old-run in
+      let new-halves : Reaches lo hi n′ c (until (meets edit past) news ++ (t ∷ after)) = rw (joined parts) new-run in
+      let old-halves : Reaches lo hi (lengthOf old) c (until (wasAt edit t) past ++ (x ∷ rest)) = rw (at .whole) old-run in
       let here : x + edit .added - edit .removed ≡ t = omega (arith, at .place) in
-      rw (at .onward) (reaches-on (before (meets edit past) news) (t ∷ after) (λ h. omega arith) new-halves
-      (turned (reaches-after (before (meets edit past) news) (t ∷ after) new-halves) here
-      (reaches-moved edit n′ t (at .place) ends (rest-of (reaches-after (before (wasAt edit t) past) (x ∷ rest) old-halves)))))
+      rw (at .onward) (reaches-on (until (meets edit past) news) (t ∷ after) (λ h. omega arith) new-halves
+      (turned (reaches-after (until (meets edit past) news) (t ∷ after) new-halves) here
+      (reaches-moved edit n′ t (at .place) ends (rest-of (reaches-after (until (wasAt edit t) past) (x ∷ rest) old-halves)))))
     where
       rest-of : {z b x : ℕ} {l : List ℕ} → Reaches lo hi z b (x ∷ l) → Reaches lo hi z x l
       rest-of (step up near far more) = more
@@ -89,13 +89,13 @@ module _ (lo hi n′ : ℕ) (edit : Edit) (newCuts : ℕ → List ℕ) (reach : 
   unfolding lengthOf
   new-length = reaches-last amended-reaches
 
-  met-length : (past news r : List ℕ) → Split (meets edit past) news (before (meets edit past) news) r → isEmpty r ≡ false → 0 < length (backFrom edit past r)
+  met-length : (past news r : List ℕ) → Split (meets edit past) news (until (meets edit past) news) r → isEmpty r ≡ false → 0 < length (backFrom edit past r)
   unfolding backFrom isEmpty
   met-length past news [] parts some = absurd (let z : _≡_ {A = ℕ} 0 1 = cc in omega arith)
   met-length past news (t ∷ after) parts some = let (x, rest, at) = placed edit past t (heads parts) in rw (at .onward) (omega arith)
 
   ends-meet : (c : ℕ) (past news : List ℕ) → 0 < length past → 0 < length news → Reaches lo hi (lengthOf old) c past → Reaches lo hi n′ c news
-      → isEmpty (since (meets edit past) news) ≡ false
+      → isEmpty (from (meets edit past) news) ≡ false
   unfolding meets wasAt
   ends-meet c past news some-old some-new old-run new-run =
       let far : edit .at + edit .added ≤ n′ = omega arith in

@@ -11,9 +11,9 @@ use borrow.Author.Tests.{le-leb, lt-leb, leb-true, leb-false, eqb-true, eqb-fals
 use Rattle.laws.proofs.Cases.{by-lt, by-test, clash}
 use Rattle.lists.specs.WellFormed.{isEmpty}
 use Rattle.amending.specs.declared.edits.Edit.{Edit}
-use Rattle.amending.specs.Parts.{before, since, wasAt, meets}
+use Rattle.amending.specs.Parts.{until, from, wasAt, meets}
 use Rattle.amending.specs.Inner.{Ascends, Looked}
-use Rattle.amending.proofs.Split.{Split, here, split, joined, left-over, heads, since-is, since-later, since-none}
+use Rattle.amending.proofs.Split.{Split, here, split, joined, left-over, heads, from-is, from-later, from-none}
 
 not-there : (edit : Edit) (t x : ℕ) → (x + edit .added ≡ t + edit .removed → ⊥) → wasAt edit t x ≡ false
 unfolding wasAt
@@ -39,20 +39,20 @@ place-of edit t far = omega arith
 
 -- p is that place, and r how many old cuts are below it
 module _ (edit : Edit) (t p : ℕ) (far : edit .at + edit .added ≤ t) (place : p + edit .added ≡ t + edit .removed) (left : List ℕ)
-    (r : ℕ) (stops : r ≡ length (before (leb p) left)) where
-  remains : drop r left ≡ since (leb p) left
+    (r : ℕ) (stops : r ≡ length (until (leb p) left)) where
+  remains : drop r left ≡ from (leb p) left
   remains = ap (λ k. drop k left) stops ∙ left-over (split (leb p) left)
 
   -- an old cut below p is met by neither t nor a later new cut
-  skipped : (t′ : ℕ) → t ≤ t′ → since (wasAt edit t′) left ≡ since (wasAt edit t′) (drop r left)
+  skipped : (t′ : ℕ) → t ≤ t′ → from (wasAt edit t′) left ≡ from (wasAt edit t′) (drop r left)
   skipped t′ h =
-      since-later (wasAt edit t′) (λ x low. let below : x < p = leb-false p x low in not-there edit t′ x (λ is. omega arith)) (split (leb p) left)
-      ∙ ap (since (wasAt edit t′)) (sym remains)
+      from-later (wasAt edit t′) (λ x low. let below : x < p = leb-false p x low in not-there edit t′ x (λ is. omega arith)) (split (leb p) left)
+      ∙ ap (from (wasAt edit t′)) (sym remains)
 
-  looked : (met : Bool) → met ≡ meets edit left t → (met ≡ true → drop r left ≡ since (wasAt edit t) left) → Looked edit t left r met
-  looked met told onward = record { within = omega (arith, length-append (before (leb p) left) (since (leb p) left), ap length (joined (split (leb p) left))); told = told; onward = onward; behind = λ t′ h. skipped t′ (omega arith) }
+  looked : (met : Bool) → met ≡ meets edit left t → (met ≡ true → drop r left ≡ from (wasAt edit t) left) → Looked edit t left r met
+  looked met told onward = record { within = omega (arith, length-append (until (leb p) left) (from (leb p) left), ap length (joined (split (leb p) left))); told = told; onward = onward; behind = λ t′ h. skipped t′ (omega arith) }
 
-  meets-by : {k : List ℕ} → since (wasAt edit t) left ≡ k → not (isEmpty k) ≡ meets edit left t
+  meets-by : {k : List ℕ} → from (wasAt edit t) left ≡ k → not (isEmpty k) ≡ meets edit left t
   unfolding meets
   meets-by e = rw (e, le-leb (edit .at + edit .added) t far)
 
@@ -61,7 +61,7 @@ module _ (edit : Edit) (t p : ℕ) (far : edit .at + edit .added ≤ t) (place :
   unfolding isEmpty
   unmet other =
       looked false
-      (meets-by (skipped t (omega arith) ∙ since-none (wasAt edit t) (drop r left) (λ i h. not-there edit t (getD (drop r left) i 0) (λ is. other i h (omega arith)))))
+      (meets-by (skipped t (omega arith) ∙ from-none (wasAt edit t) (drop r left) (λ i h. not-there edit t (getD (drop r left) i 0) (λ is. other i h (omega arith)))))
       (λ is. absurd (clash (sym is)))
 
   pub look-end : length left ≤ r → Looked edit t left r false
@@ -73,11 +73,11 @@ module _ (edit : Edit) (t p : ℕ) (far : edit .at + edit .added ≤ t) (place :
       let there : drop r left ≡ getD left r 0 ∷ drop (suc r) left = drop-cons left r 0 inside in
       by-test (eqb (getD left r 0) p)
       (λ e. let hit : wasAt edit t (getD left r 0) ≡ true = is-there edit t (getD left r 0) (omega (arith, eqb-true (getD left r 0) p e)) in
-      let found : since (wasAt edit t) left ≡ getD left r 0 ∷ drop (suc r) left =
-      skipped t (omega arith) ∙ ap (since (wasAt edit t)) there ∙ since-is (wasAt edit t) (here hit) in
+      let found : from (wasAt edit t) left ≡ getD left r 0 ∷ drop (suc r) left =
+      skipped t (omega arith) ∙ ap (from (wasAt edit t)) there ∙ from-is (wasAt edit t) (here hit) in
       rw e (looked true (meets-by found) (λ h. there ∙ sym found)))
       (λ e. let high : p ≤ getD left r 0 =
-      leb-true p _ (heads (subst (Split (leb p) left (before (leb p) left)) (sym remains ∙ there) (split (leb p) left))) in
+      leb-true p _ (heads (subst (Split (leb p) left (until (leb p) left)) (sym remains ∙ there) (split (leb p) left))) in
       rw e (unmet (λ i below. rw getD-drop (λ is. by-lt 0 i
       (λ h. omega (arith, rises r (r + i) (omega arith) (omega (arith, length-drop r left))))
       (λ h. let same : r ≡ r + i = omega arith in eqb-false (getD left r 0) p e (ap (λ k. getD left k 0) same ∙ is))))))

@@ -9,20 +9,20 @@ use lib.ListN.{length, getD, set, drop, drop-of-length-le}
 use lib.Seq.{drop-cons, sets}
 use Rattle.laws.specs.Last.{lastOr}
 use Rattle.amending.specs.declared.edits.Edit.{Edit}
-use Rattle.amending.specs.Parts.{before, moved}
+use Rattle.amending.specs.Parts.{until, moved}
 
 -- climbing while a test fails: the places passed and those still to pass make up the total
 module _ (test : ℕ → Bool) (l : List ℕ) (i : ℕ) where
-  pub climb-on : i < length l → test (getD l i 0) ≡ false → i + length (before test (drop i l)) ≡ (i + 1) + length (before test (drop (i + 1) l))
-  unfolding before
-  climb-on h e = rw (drop-cons l i 0 h, e, before, add-one) (omega arith)
+  pub climb-on : i < length l → test (getD l i 0) ≡ false → i + length (until test (drop i l)) ≡ (i + 1) + length (until test (drop (i + 1) l))
+  unfolding until
+  climb-on h e = rw (drop-cons l i 0 h, e, until, add-one) (omega arith)
 
-  pub climb-stops : i < length l → test (getD l i 0) ≡ true → i + length (before test (drop i l)) ≡ i
-  unfolding before
-  climb-stops h e = rw (drop-cons l i 0 h, e, before) (omega arith)
+  pub climb-stops : i < length l → test (getD l i 0) ≡ true → i + length (until test (drop i l)) ≡ i
+  unfolding until
+  climb-stops h e = rw (drop-cons l i 0 h, e, until) (omega arith)
 
-  pub climb-end : length l ≤ i → i + length (before test (drop i l)) ≡ i
-  unfolding before
+  pub climb-end : length l ≤ i → i + length (until test (drop i l)) ≡ i
+  unfolding until
   climb-end h = rw (drop-of-length-le l h) (omega arith)
 
 pub last-none : (l : List ℕ) → length l ≡ 0 → lastOr 0 l ≡ 0

@@ -10,7 +10,7 @@ use Rattle.rule.proofs.Chain.{Run, stay, onward, Rising, opened, at-end, whole}
 use Rattle.rule.proofs.Next.{next-step, next-again, rising}
 use Rattle.amending.specs.declared.edits.Edit.{Edit}
 use Rattle.amending.specs.Parts.{pastFront, restart, meets, backFrom, firstOr, recut, back, stretchEnd}
-use Rattle.amending.proofs.Split.{Split, nowhere, here, later, split, before-is, since-is}
+use Rattle.amending.proofs.Split.{Split, nowhere, here, later, split, until-is, from-is}
 
 module _ (next next′ : ℕ → ℕ) (n : ℕ) (ok : Rising next n) (ok′ : Rising next′ n) (edit : Edit) (past : List ℕ) where
   along : {c : ℕ} {news p r : List ℕ} → Run next n c news n → Split (meets edit past) news p r
@@ -24,7 +24,7 @@ module _ (next next′ : ℕ → ℕ) (n : ℕ) (ok : Rising next n) (ok′ : Ri
       (omega arith, next c ∷ chain next′ n (n - next c) (next c), rw (opened next′ n ok′ c h, same) (here e), refl)
   along (onward {c = c} h run) (later e parts) agree =
       let up : c < next c = ok .rises c h in
-      let (low, r′, parts′, same-back) = along run parts (λ x from b near. agree x (omega arith) b near) in
+      let (low, r′, parts′, same-back) = along run parts (λ x begun b near. agree x (omega arith) b near) in
       let same : next′ c ≡ next c = agree c (omega arith) h low in
       (omega arith, r′, rw (opened next′ n ok′ c h, same) (later e parts′), same-back)
 
@@ -37,5 +37,5 @@ module _ (mark mark′ : ℕ → Bool) (lo hi n : ℕ) (positive : 0 < lo) (orde
       let (low, r′, parts, same-back) =
       along (next mark lo hi n) (next mark′ lo hi n) n ok (rising mark′ lo hi n positive order) edit (pastFront (edit .at) old)
       (whole (next mark lo hi n) n ok (restart (edit .at) old) inside) (split _ _)
-      (λ x from b near. next-again mark mark′ lo hi n n x (next-step mark lo hi n x order .inside) (λ e. refl) (λ q far low. same q (omega arith) (omega arith))) in
-      (sym (before-is _ parts), sym (ap (backFrom edit (pastFront (edit .at) old)) (since-is _ parts) ∙ same-back))
+      (λ x begun b near. next-again mark mark′ lo hi n n x (next-step mark lo hi n x order .inside) (λ e. refl) (λ q far low. same q (omega arith) (omega arith))) in
+      (sym (until-is _ parts), sym (ap (backFrom edit (pastFront (edit .at) old)) (from-is _ parts) ∙ same-back))

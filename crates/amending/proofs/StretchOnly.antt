@@ -22,7 +22,7 @@ use Rattle.cutting.specs.Marks.{mark}
 use Rattle.cutting.proofs.Marked.{mark-past, marks-by-bytes}
 use Rattle.amending.specs.declared.edits.Edit.{Edit}
 use Rattle.amending.specs.Parts.{front, restart, stretchEnd, recut, back, amendedList}
-use Rattle.amending.specs.Answers.{newCutsOf, editFits, amendRows, amendAnswer, amendList}
+use Rattle.amending.specs.Answers.{newCutsOf, editFits, amendRows, amendAnswer, amendLeaves}
 use Rattle.amending.proofs.Front.{front-is, restarts-low}
 use Rattle.amending.proofs.Fitting.{edit-told}
 use Rattle.amending.proofs.Stretch.{parts-same}
@@ -71,6 +71,6 @@ module _ (settings : Settings) (old : List ℕ) (edit : Edit) (log log′ : List
   unfolding amendAnswer amendRows amendedList
   stretch-only-answer room = by-parts (λ p. rw (p .0, p .1, same)) (λ why other v. rw (v room .0, v room .1))
 
-  pub stretch-only-list : (list : List ℕ) → amendList settings old edit log list ≡ amendList settings old edit log′ list
-  unfolding amendList amendRows amendedList
+  pub stretch-only-list : (list : List ℕ) → amendLeaves settings old edit log list ≡ amendLeaves settings old edit log′ list
+  unfolding amendLeaves amendRows amendedList
   stretch-only-list list = by-parts (λ p. rw (p .0, p .1, same)) (λ why other v. rw (v (length list) .0, v (length list) .1, other))

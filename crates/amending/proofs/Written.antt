@@ -76,9 +76,9 @@ pub record Done (newCuts : ℕ → List ℕ) (old : List ℕ) (edit : Edit) (lis
   pub holds : list ≡ writtenList (amendedList newCuts old edit) list₀
   pub room : length list ≡ length list₀
 
-module _ (newCuts : ℕ → List ℕ) (old : List ℕ) (edit : Edit) (list₀ : List ℕ) {list₁ list₂ list : List ℕ} {kept from count passed bytes : ℕ}
-    (is : kept ≡ frontCount (edit .at) old) (copied : list₁ ≡ sets list₀ 0 (map (moved noEdit) (take kept old))) (restarts : from ≡ lastOr 0 (take kept old))
-    (made : Recutted edit bytes (drop kept old) (newCuts from) kept list₁ list₂ count passed)
+module _ (newCuts : ℕ → List ℕ) (old : List ℕ) (edit : Edit) (list₀ : List ℕ) {list₁ list₂ list : List ℕ} {kept start count passed bytes : ℕ}
+    (is : kept ≡ frontCount (edit .at) old) (copied : list₁ ≡ sets list₀ 0 (map (moved noEdit) (take kept old))) (restarts : start ≡ lastOr 0 (take kept old))
+    (made : Recutted edit bytes (drop kept old) (newCuts start) kept list₁ list₂ count passed)
     (moves : list ≡ sets list₂ (kept + count) (map (moved edit) (drop passed (drop kept old)))) where
   -- the kept entries are the front, what follows it is past it, and cutting restarted where it should
   again : Recutted edit bytes (pastFront (edit .at) old) (newCuts (restart (edit .at) old)) kept list₁ list₂ count passed

@@ -3,13 +3,13 @@ ghost use mathlib.Core.Path.{_≡_};
 ghost use Prim.Native.Nat.{_+_, _<_, _^_};
 ghost use lib.Dec.{leb};
 ghost use lib.ListN.{length};
-ghost use Rattle.amending.specs.Parts.{before};
+ghost use Rattle.amending.specs.Parts.{until};
 ghost use Rattle.amending.specs.Inner.{Ascends, Looked};
 use super::edits::Edit;
 
 // How many entries come before the first that is not below an offset.
 pub fn climb(list: &[u64], offset: u64) -> usize
-    ensures { λ r. ⌜ r ≡ length (before (leb offset) (now (list .entry))) ⌝ }
+    ensures { λ r. ⌜ r ≡ length (until (leb offset) (now (list .entry))) ⌝ }
 {
     let mut i = 0;
     while i < list.len() {

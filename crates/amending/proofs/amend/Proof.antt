@@ -11,7 +11,7 @@ use Rattle.terms.specs.Settings.{inRange}
 use Rattle.terms.proofs.Ranges.{ranges}
 use Rattle.terms.proofs.Verdicts.{asked, top, past, stopped, wrote}
 use Rattle.lists.specs.WellFormed.{wellFormed, lengthOf}
-use Rattle.amending.specs.Answers.{editFits, amendRows, partsAnswer, amendAnswer, amendList}
+use Rattle.amending.specs.Answers.{editFits, amendRows, partsAnswer, amendAnswer, amendLeaves}
 use Rattle.amending.specs.declared.Amendment.the-variants.{Refused}
 use Rattle.amending.proofs.amend.Statement.{statement}
 use Rattle.amending.proofs.amend.Tie as tie
@@ -32,20 +32,20 @@ edited : (c : tie.Else3) → not (editFits (lengthOf (c .before .before .before 
 edited c = asked (fit (c .before)) (c .if3 .left)
 
 returns : tie.Need-returns
-unfolding amendAnswer amendList amendRows
+unfolding amendAnswer amendLeaves amendRows
 returns c = stopped ListFull Refused _ _ _ top (asked (c .before .in-range .ensures) (c .if1 .taken)) refl
 
 returns-2 : tie.Need-returns-2
-unfolding amendAnswer amendList amendRows
+unfolding amendAnswer amendLeaves amendRows
 returns-2 c = stopped ListFull Refused _ _ _ (past (ranged (c .before .before)) top) (asked (c .before .well-formed .ensures) (c .if2 .taken)) refl
 
 returns-3 : tie.Need-returns-3
-unfolding amendAnswer amendList amendRows
+unfolding amendAnswer amendLeaves amendRows
 returns-3 c =
     stopped ListFull Refused _ _ _ (past (ranged (c .before .before .before .before .before)) (past (formed (c .before .before .before)) top)) (asked (fit (c .before)) (c .if3 .taken)) refl
 
 returns-4 : tie.Need-returns-4
-unfolding amendAnswer amendList amendRows
+unfolding amendAnswer amendLeaves amendRows
 returns-4 c =
     stopped ListFull Refused _ _ _ (past (ranged (c .before .before .before .before .before .before)) (past (formed (c .before .before .before .before)) (past (edited (c .before)) top)))
     (lt-ltb _ _ (c .if4 .taken)) refl
@@ -57,7 +57,7 @@ add-if5 : tie.Need-add-if5
 add-if5 c = omega (arith, div-le-self (length (c .before .before .before .before .before .before .before .before .before .before .before .args .log .now)) (c .before .before .before .before .before .before .before .before .before .before .before .args .settings .minimum), c .if4 .left)
 
 returns-5 : tie.Need-returns-5
-unfolding amendAnswer amendList amendRows
+unfolding amendAnswer amendLeaves amendRows
 returns-5 c =
     stopped ListFull Refused _ _ _
     (past (ranged (c .before .before .before .before .before .before .before)) (past (formed (c .before .before .before .before .before)) (past (edited (c .before .before)) (past (le-ltb _ _ (c .before .if4 .left)) top))))
@@ -67,7 +67,7 @@ write-parts-requires : tie.Need-write-parts-requires
 write-parts-requires c κs = ((not-false _ (ranged (c .before .before .before .before .before .before .before .before)), not-false _ (formed (c .before .before .before .before .before .before))), (not-false _ (edited (c .before .before .before)), c .before .before .if4 .left))
 
 returns-6 : tie.Need-returns-6
-unfolding amendAnswer amendList amendRows partsAnswer
+unfolding amendAnswer amendLeaves amendRows partsAnswer
 returns-6 c =
     wrote ListFull Refused _ _ _
     (past (ranged (c .before .before .before .before .before .before .before .before .before .before .before)) (past (formed (c .before .before .before .before .before .before .before .before .before)) (past (edited (c .before .before .before .before .before .before)) (past (le-ltb _ _ (c .before .before .before .before .before .if4 .left)) (past (le-ltb _ _ (c .before .before .before .before .if5 .left)) top)))))

@@ -14,11 +14,11 @@ use Rattle.amending.proofs.recutting.recut.Statement.{statement}
 use Rattle.amending.proofs.recutting.recut.Tie as tie
 
 abbrev Inv-loop : tie.InvT-loop
-Inv-loop settings past from edit log list₀ kept leaving pushed cut₀ passed₀ count₀ list cut passed count =
-    Recuts (nextCut settings log) (length log) edit past kept list₀ from list cut passed count
+Inv-loop settings past start edit log list₀ kept leaving pushed cut₀ passed₀ count₀ list cut passed count =
+    Recuts (nextCut settings log) (length log) edit past kept list₀ start list cut passed count
 
 abbrev μ-loop : tie.MeasureT-loop
-μ-loop settings past from edit log list₀ kept leaving pushed cut₀ passed₀ count₀ list cut passed count = length log - cut
+μ-loop settings past start edit log list₀ kept leaving pushed cut₀ passed₀ count₀ list cut passed count = length log - cut
 
 rising : (c : tie.Start Inv-loop μ-loop) → Rising (nextCut (c .args .settings) (c .args .log .now)) (length (c .args .log .now))
 rising c = log-rising _ _ (c .pre .0 .0)
