@@ -32,7 +32,7 @@ module _ (next next′ : ℕ → ℕ) (n n′ : ℕ) (edit : Edit) (ok : Rising 
   -- the back is the new cuts from the meeting on
   back-is : {c m : ℕ} {past : List ℕ} (r : List ℕ) → Run next n c past n → Run next′ n′ m r n′
       → ((t : ℕ) (later : List ℕ) → r ≡ t ∷ later → meets edit past t ≡ true) → backFrom edit past r ≡ r
-  unfolding backFrom moved
+  unfolding backFrom
   back-is [] old new met = refl
   back-is {c} {past = past} (t ∷ later) old new met =
       let (x, k, at) = placed edit past t (met t later refl) in

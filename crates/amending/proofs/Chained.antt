@@ -34,7 +34,6 @@ goes-on (step up near far more) h = omega arith
 -- a list moved
 reaches-moved : {lo hi z b : ℕ} {l : List ℕ} (edit : Edit) (z′ b′ : ℕ) → b + edit .added ≡ b′ + edit .removed → z + edit .added ≡ z′ + edit .removed
     → Reaches lo hi z b l → Reaches lo hi z′ b′ (map (moved edit) l)
-unfolding moved
 reaches-moved {lo} {hi} edit z′ b′ p q there = let same : z′ ≡ b′ = omega arith in subst (λ b. Reaches lo hi z′ b []) same there
 reaches-moved {lo} {hi} {z} edit z′ b′ p q (step {b = b} {x = x} up near far more) =
     let up′ : b′ < x + edit .added - edit .removed = omega arith in
@@ -56,7 +55,7 @@ module _ (lo hi n′ : ℕ) (edit : Edit) (newCuts : ℕ → List ℕ) (reach : 
   -- the recut and the back go on from the restart to the new end
   tail-reaches : (c : ℕ) (past news r : List ℕ) → Reaches lo hi (lengthOf old) c past → Reaches lo hi n′ c news
       → Split (meets edit past) news (until (meets edit past) news) r → Reaches lo hi n′ c (until (meets edit past) news ++ backFrom edit past r)
-  unfolding backFrom moved
+  unfolding backFrom
   tail-reaches c past news [] old-run new-run parts = rw (joined parts) new-run
   tail-reaches c past news (t ∷ after) old-run new-run parts =
       let (x, rest, at) = placed edit past t (heads parts) in

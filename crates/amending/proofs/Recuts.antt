@@ -12,10 +12,10 @@ use Rattle.rule.specs.Rule.{chain}
 use Rattle.rule.proofs.Chain.{Rising, opened, at-end}
 use Rattle.amending.specs.declared.edits.Edit.{Edit}
 use Rattle.amending.specs.Parts.{until, from, wasAt, meets, moved, backFrom}
-use Rattle.amending.specs.Inner.{Ascends, Looked, Recutted}
+use Rattle.amending.specs.Inner.{Ascends, Recutted}
 use Rattle.amending.proofs.Split.{nowhere, here, later, split, until-is, from-is}
 use Rattle.amending.proofs.Meets.{placed}
-use Rattle.amending.proofs.Looking.{ascends-after}
+use Rattle.amending.proofs.Looking.{Looked, ascends-after}
 
 -- the new cuts after c
 abbrev after : (ℕ → ℕ) → ℕ → ℕ → List ℕ

@@ -44,8 +44,11 @@ unfoldable pub meets : (edit : Edit) (past : List ℕ) (t : ℕ) → Bool
 meets edit past t = leb (edit .at + edit .added) t && not (isEmpty (from (wasAt edit t) past))
 
 -- an old cut moved by e - d
-unfoldable pub moved : (edit : Edit) (x : ℕ) → ℕ
-moved edit x = x + edit .added - edit .removed
+abbrev pub shifted : (removed added x : ℕ) → ℕ
+shifted removed added x = x + added - removed
+
+abbrev pub moved : (edit : Edit) (x : ℕ) → ℕ
+moved edit x = shifted (edit .removed) (edit .added) x
 
 -- the first entry, or other where there is none
 unfoldable pub firstOr : (other : ℕ) (l : List ℕ) → ℕ
