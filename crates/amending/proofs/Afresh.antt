@@ -24,7 +24,7 @@ use Rattle.cutting.proofs.Reaching.{true-list}
 use Rattle.amending.specs.declared.edits.Edit.{Edit}
 use Rattle.amending.specs.declared.Amendment.the-variants.{Amended, Refused}
 use Rattle.amending.specs.Parts.{amendedList}
-use Rattle.amending.specs.Answers.{amendmentNumber, frontOf, recutOf, backOf, newCutsOf, counts, editFits, amendTests, amendRows, amendAnswer, amendLeaves}
+use Rattle.amending.specs.Answers.{amendmentNumber, frontOf, recutOf, backOf, newCutsOf, counts, editFits, amendRows, amendAnswer, amendLeaves}
 use Rattle.amending.proofs.Fitting.{edit-fits}
 use Rattle.amending.proofs.ByMarks.{amended-by-marks}
 
@@ -81,7 +81,7 @@ module _ (settings : Settings) (a removed added b : List ℕ) where
   -- amending a true list is refused where cutting the new log afresh is, by the same row
   same-verdict : (room : ℕ) → length (a ++ (removed ++ b)) ≤ longest
       → verdict (amendRows settings (cutList settings (a ++ (removed ++ b))) (replaced a removed added) (a ++ (added ++ b)) room) ≡ verdict (cutLogRows settings (a ++ (added ++ b)) room)
-  unfolding amendRows amendTests cutLogRows verdict
+  unfolding amendRows cutLogRows verdict
   same-verdict room short =
       by-test (inRange settings)
       (λ ok. let known = true-list settings (a ++ (removed ++ b)) ok short in

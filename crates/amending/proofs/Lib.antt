@@ -10,8 +10,6 @@ pub mod Fitting
 pub mod Places
 -- looking for the meeting in a rising list
 pub mod Looking
--- what the rows above the guard say where none holds
-pub mod Passed
 -- the recut, cut by cut
 pub mod Recuts
 -- the three parts written one after the other

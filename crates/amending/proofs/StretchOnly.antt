@@ -22,7 +22,7 @@ use Rattle.cutting.specs.Marks.{mark}
 use Rattle.cutting.proofs.Marked.{mark-past, marks-by-bytes}
 use Rattle.amending.specs.declared.edits.Edit.{Edit}
 use Rattle.amending.specs.Parts.{front, restart, stretchEnd, recut, back, amendedList}
-use Rattle.amending.specs.Answers.{newCutsOf, editFits, amendTests, amendRows, amendAnswer, amendLeaves}
+use Rattle.amending.specs.Answers.{newCutsOf, editFits, amendRows, amendAnswer, amendLeaves}
 use Rattle.amending.proofs.Front.{front-is, restarts-low}
 use Rattle.amending.proofs.Fitting.{edit-told}
 use Rattle.amending.proofs.Stretch.{parts-same}
@@ -58,7 +58,7 @@ module _ (settings : Settings) (old : List ℕ) (edit : Edit) (log log′ : List
   -- the parts are the same, or both calls are refused by the same row
   by-parts : {C : Type 0} → ((recut (newCutsOf settings log) old edit ≡ recut (newCutsOf settings log′) old edit) × (back (newCutsOf settings log) old edit ≡ back (newCutsOf settings log′) old edit) → C)
       → ((why : Refusal) → eqb (numberOf why) 17 ≡ false → ((room : ℕ) → (verdict (amendRows settings old edit log room) ≡ Wrong why) × (verdict (amendRows settings old edit log′ room) ≡ Wrong why)) → C) → C
-  unfolding amendRows amendTests verdict
+  unfolding amendRows verdict
   by-parts f g =
       by-test (inRange settings)
       (λ ok. by-test (editFits (lengthOf old) edit (length log)) (λ fits. f (parts ok fits))

@@ -1,7 +1,7 @@
 -- What amending answers and leaves, for every input: document 01, "Numbers answered".
 use Prim.Native.Nat.{ℕ, _+_, _-_}
 use mathlib.Core.Bool.{Bool, not, _&&_}
-use mathlib.Core.List.{List, [], _∷_, _++_}
+use mathlib.Core.List.{List, [], _∷_}
 use lib.Dec.{leb, ltb, eqb}
 use lib.ListN.{length}
 use Rattle.terms.specs.declared.Settings.{Settings}
@@ -53,19 +53,16 @@ counts newCuts old edit = Amended (length (front (edit .at) old)) (length (recut
 unfoldable pub partsAnswer : (newCuts : ℕ → List ℕ) (old : List ℕ) (edit : Edit) (room : ℕ) → Amendment
 partsAnswer newCuts old edit room = ruled (verdict (guard (amendedList newCuts old edit) room ∷ [])) Refused (counts newCuts old edit)
 
--- 1, 10, 11, 2, 5
-unfoldable pub amendTests : (settings : Settings) (old : List ℕ) (edit : Edit) (bytes room : ℕ) → List Row
-amendTests settings old edit bytes room =
+-- 1, 10, 11, 2, 5, and the guard
+unfoldable pub amendRows : (settings : Settings) (old : List ℕ) (edit : Edit) (log : List ℕ) (room : ℕ) → List Row
+amendRows settings old edit log room =
     row SettingsOutOfRange (not (inRange settings))
     ∷ row ListNotWellFormed (not (wellFormed (settings .minimum) (settings .maximum) old))
-    ∷ row EditOutOfRange (not (editFits (lengthOf old) edit bytes))
-    ∷ row LogTooLong (ltb longest bytes)
-    ∷ row RoomTooShort (ltb room (roomFor (settings .minimum) bytes))
+    ∷ row EditOutOfRange (not (editFits (lengthOf old) edit (length log)))
+    ∷ row LogTooLong (ltb longest (length log))
+    ∷ row RoomTooShort (ltb room (roomFor (settings .minimum) (length log)))
+    ∷ guard (amendedList (newCutsOf settings log) old edit) room
     ∷ []
-
--- and the guard
-unfoldable pub amendRows : (settings : Settings) (old : List ℕ) (edit : Edit) (log : List ℕ) (room : ℕ) → List Row
-amendRows settings old edit log room = amendTests settings old edit (length log) room ++ (guard (amendedList (newCutsOf settings log) old edit) room ∷ [])
 
 unfoldable pub amendAnswer : (settings : Settings) (old : List ℕ) (edit : Edit) (log : List ℕ) (room : ℕ) → Amendment
 amendAnswer settings old edit log room = ruled (verdict (amendRows settings old edit log room)) Refused (counts (newCutsOf settings log) old edit)

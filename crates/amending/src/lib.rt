@@ -5,11 +5,10 @@ ghost use Prim.Native.Nat.{_≤_};
 ghost use lib.ListN.{length};
 ghost use Rattle.terms.specs.Settings.{inRange};
 ghost use Rattle.terms.specs.Answers.{longest};
-ghost use Rattle.terms.specs.Rows.{verdict};
 ghost use Rattle.lists.specs.WellFormed.{wellFormed, lengthOf};
 ghost use Rattle.cutting.specs.WholeLog.{writtenList};
 ghost use Rattle.amending.specs.Parts.{amendedList};
-ghost use Rattle.amending.specs.Answers.{newCutsOf, editFits, partsAnswer, amendTests, amendAnswer, amendLeaves};
+ghost use Rattle.amending.specs.Answers.{newCutsOf, editFits, partsAnswer, amendAnswer, amendLeaves};
 
 pub mod edits;
 mod meeting;
@@ -19,7 +18,6 @@ mod recutting;
 use edits::Edit;
 use terms::Refusal;
 use terms::Settings;
-use terms::Verdict;
 
 // What amending answers: the entries of the three parts, or why it is refused.
 pub enum Amendment {
@@ -62,37 +60,28 @@ fn write_parts(
     }
 }
 
-// The rows of the table, in order, but for the guard: nothing is written before they are judged.
-fn judge(settings: Settings, old: &[u64], edit: Edit, bytes: u64, places: u64) -> Verdict
-    ensures { λ r. ⌜ r ≡ verdict (amendTests settings (now (old .entry)) edit bytes places) ⌝ }
-{
-    if !settings.in_range() {
-        return Verdict::Wrong(Refusal::SettingsOutOfRange);
-    }
-    if !lists::well_formed(settings.minimum, settings.maximum, old) {
-        return Verdict::Wrong(Refusal::ListNotWellFormed);
-    }
-    if !edit.fits(parts::last_of(old), bytes) {
-        return Verdict::Wrong(Refusal::EditOutOfRange);
-    }
-    if bytes > terms::LONGEST {
-        return Verdict::Wrong(Refusal::LogTooLong);
-    }
-    let minimum = settings.minimum;
-    if places < bytes / minimum + 1 {
-        return Verdict::Wrong(Refusal::RoomTooShort);
-    }
-    Verdict::Fine
-}
-
 // The list of the new log, from the old log's list.
 pub fn amend(settings: Settings, old: &[u64], edit: Edit, log: &[u8], list: &mut [u64]) -> Amendment
     ensures answer { λ r. ⌜ r ≡ amendAnswer settings (now (old .entry)) edit (now (log .entry)) (length (now (list .entry))) ⌝ }
     ensures list { λ r. ⌜ now (list .exit) ≡ amendLeaves settings (now (old .entry)) edit (now (log .entry)) (now (list .entry)) ⌝ }
 {
-    match judge(settings, old, edit, log.len() as u64, list.len() as u64) {
-        Verdict::Wrong(why) => return Amendment::Refused(why),
-        Verdict::Fine => {}
+    if !settings.in_range() {
+        return Amendment::Refused(Refusal::SettingsOutOfRange);
+    }
+    if !lists::well_formed(settings.minimum, settings.maximum, old) {
+        return Amendment::Refused(Refusal::ListNotWellFormed);
+    }
+    let bytes = log.len() as u64;
+    if !edit.fits(parts::last_of(old), bytes) {
+        return Amendment::Refused(Refusal::EditOutOfRange);
+    }
+    if bytes > terms::LONGEST {
+        return Amendment::Refused(Refusal::LogTooLong);
+    }
+    let minimum = settings.minimum;
+    let places = list.len() as u64;
+    if places < bytes / minimum + 1 {
+        return Amendment::Refused(Refusal::RoomTooShort);
     }
     write_parts(settings, old, edit, log, list)
 }

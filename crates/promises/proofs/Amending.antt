@@ -15,7 +15,7 @@ use Rattle.terms.specs.Refusals.{numberOf}
 use Rattle.terms.specs.Settings.{inRange}
 use Rattle.terms.specs.Answers.{longest}
 use Rattle.terms.specs.Rows.{Row, verdict, ruled, firstRow}
-use Rattle.terms.proofs.Verdicts.{by-verdict, through, clear, both-clear, Leaves, refused-leaves}
+use Rattle.terms.proofs.Verdicts.{by-verdict, through, clear, Leaves, refused-leaves}
 use Rattle.lists.specs.WellFormed.{wellFormed, lengthOf}
 use Rattle.cutting.specs.Marks.{cutList}
 use Rattle.cutting.specs.WholeLog.{writtenList, cutLogAnswer, cutLogList}
@@ -25,7 +25,7 @@ use Rattle.amending.specs.declared.Amendment.{Amendment}
 use Rattle.amending.specs.declared.Amendment.the-variants.{Amended, Refused}
 use Rattle.amending.specs.Parts.{front, pastFront, restart, recut, back, amendedList, stretchEnd}
 use Rattle.amending.specs.Told.{FrontTold, Recut}
-use Rattle.amending.specs.Answers.{amendmentNumber, frontOf, recutOf, backOf, newCutsOf, editFits, counts, amendTests, amendRows, amendAnswer, amendLeaves}
+use Rattle.amending.specs.Answers.{amendmentNumber, frontOf, recutOf, backOf, newCutsOf, editFits, counts, amendRows, amendAnswer, amendLeaves}
 use Rattle.amending.proofs.Afresh.{amend-cuts-afresh}
 use Rattle.amending.proofs.StretchOnly.{stretch-only-answer, stretch-only-list}
 use Rattle.amending.proofs.AnyList as any
@@ -63,7 +63,7 @@ amend-uncounted (Refused why) refusal = record { kept = refl; anew = refl; moved
 module _ (settings : Settings) (old : List ℕ) (edit : Edit) (log : List ℕ) where
   -- document 01's order
   pub amend-order : (room : ℕ) → map (λ (r : Row). numberOf (r .why)) (amendRows settings old edit log room) ≡ 1 ∷ 10 ∷ 11 ∷ 2 ∷ 5 ∷ 17 ∷ []
-  unfolding amendRows amendTests
+  unfolding amendRows
   amend-order room = refl
 
   pub amend-rows : (room : ℕ) → amendmentNumber (amendAnswer settings old edit log room) ≡ firstRow (amendRows settings old edit log room)
@@ -77,7 +77,7 @@ module _ (settings : Settings) (old : List ℕ) (edit : Edit) (log : List ℕ) w
 
   roomy : (room : ℕ) → verdict (amendRows settings old edit log room) ≡ Fine → length (amendedList (newCutsOf settings log) old edit) ≤ room
   unfolding amendRows
-  roomy room fine = ltb-false _ _ (clear _ _ _ (both-clear (amendTests settings old edit (length log) room) _ fine .1) .0)
+  roomy room fine = ltb-false _ _ (clear _ _ _ (clear _ _ _ (clear _ _ _ (clear _ _ _ (clear _ _ _ (clear _ _ _ fine .1) .1) .1) .1) .1) .0)
 
   -- the answer counts the three parts, front, recut and back, and they are written in this order
   pub amended-counted : (list : List ℕ) → amendmentNumber (amendAnswer settings old edit log (length list)) ≡ 0
