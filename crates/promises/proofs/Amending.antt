@@ -26,7 +26,7 @@ use Rattle.amending.specs.declared.Amendment.the-variants.{Amended, Refused}
 use Rattle.amending.specs.Parts.{front, pastFront, restart, recut, back, amendedList, stretchEnd}
 use Rattle.amending.specs.Told.{FrontTold, Recut}
 use Rattle.amending.specs.Answers.{amendmentNumber, frontOf, recutOf, backOf, newCutsOf, editFits, counts, amendRows, amendAnswer, amendLeaves}
-use Rattle.amending.proofs.Afresh.{amend-cuts-afresh}
+use Rattle.amending.proofs.Afresh.{replaced, amend-cuts-afresh}
 use Rattle.amending.proofs.StretchOnly.{stretch-only-answer, stretch-only-list}
 use Rattle.amending.proofs.AnyList as any
 use Rattle.promises.specs.Amendments.{Counts, Counted, AsAfresh}
@@ -98,7 +98,7 @@ pub amended : (settings : Settings) (a removed added b list : List ℕ) → leng
     let log = a ++ (added ++ b) in
     AsAfresh (amendAnswer settings old edit log (length list)) (cutLogAnswer settings log (length list)) (amendLeaves settings old edit log list) (cutLogList settings log list)
 amended settings a removed added b list short =
-    let told = amend-cuts-afresh settings a removed added b list short in record { number = told .0; count = told .1 .0; left = told .1 .1 }
+    let told = amend-cuts-afresh settings (replaced a removed added b) list short in record { number = told .0; count = told .1 .0; left = told .1 .1 }
 
 -- new bytes outside the recut stretch cannot alter the answer, lengths being equal
 module _ (settings : Settings) (old : List ℕ) (edit : Edit) (log log′ : List ℕ) (same : length log ≡ length log′)
