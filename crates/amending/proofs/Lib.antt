@@ -28,5 +28,3 @@ pub mod Stretch
 pub mod Afresh
 -- the recut stretch, over bytes
 pub mod StretchOnly
--- any well-formed list, over bytes
-pub mod AnyList

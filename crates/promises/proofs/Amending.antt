@@ -16,9 +16,12 @@ use Rattle.terms.specs.Settings.{inRange}
 use Rattle.terms.specs.Answers.{longest}
 use Rattle.terms.specs.Rows.{Row, verdict, ruled, firstRow}
 use Rattle.terms.proofs.Verdicts.{by-verdict, through, clear, Leaves, refused-leaves}
+use Rattle.terms.proofs.Ranges.{ranges}
 use Rattle.lists.specs.WellFormed.{wellFormed, lengthOf}
-use Rattle.cutting.specs.Marks.{cutList}
+use Rattle.lists.proofs.Reaching.{Reaches}
+use Rattle.cutting.specs.Marks.{mark, cutList}
 use Rattle.cutting.specs.WholeLog.{writtenList, cutLogAnswer, cutLogList}
+use Rattle.cutting.proofs.Reaching.{cuts-reach}
 use Rattle.cutting.proofs.Written.{written-whole}
 use Rattle.amending.specs.declared.edits.Edit.{Edit}
 use Rattle.amending.specs.declared.Amendment.{Amendment}
@@ -28,7 +31,9 @@ use Rattle.amending.specs.Told.{FrontTold, Recut}
 use Rattle.amending.specs.Answers.{amendmentNumber, frontOf, recutOf, backOf, newCutsOf, editFits, counts, amendRows, amendAnswer, amendLeaves}
 use Rattle.amending.proofs.Afresh.{replaced, amend-cuts-afresh}
 use Rattle.amending.proofs.StretchOnly.{stretch-only-answer, stretch-only-list}
-use Rattle.amending.proofs.AnyList as any
+use Rattle.amending.proofs.Fitting.{edit-told}
+use Rattle.amending.proofs.Told.{front-told, recut-told}
+use Rattle.amending.proofs.Chained.{well-formed-again, new-length, meeting-there}
 use Rattle.promises.specs.Amendments.{Counts, Counted, AsAfresh}
 
 -- no refusal bears the number of a success
@@ -112,21 +117,30 @@ module _ (settings : Settings) (old : List ℕ) (edit : Edit) (log log′ : List
   )
 
 -- from any well-formed old list, true or not
-module _ (settings : Settings) (old : List ℕ) (edit : Edit) (log : List ℕ) (ok : inRange settings ≡ true)
-    (formed : wellFormed (settings .minimum) (settings .maximum) old ≡ true) where
+module _ (settings : Settings) (old : List ℕ) (edit : Edit) (log : List ℕ) (formed : wellFormed (settings .minimum) (settings .maximum) old ≡ true) where
   -- the three parts that the answer counts, and the recut stretch, are what they say
   pub amended-parts : FrontTold (edit .at) old (front (edit .at) old) (pastFront (edit .at) old) (restart (edit .at) old)
       × Recut edit (pastFront (edit .at) old) (length log) (newCutsOf settings log (restart (edit .at) old)) (recut (newCutsOf settings log) old edit) (back (newCutsOf settings log) old edit)
       (stretchEnd (newCutsOf settings log) old edit (length log))
-  amended-parts = any.amended-parts settings old edit log ok formed
+  unfolding recut back stretchEnd
+  amended-parts = (front-told (settings .minimum) (settings .maximum) (edit .at) old formed, recut-told edit _ (length log) (newCutsOf settings log (restart (edit .at) old)))
 
-  module _ (fits : editFits (lengthOf old) edit (length log) ≡ true) where
+  module _ (ok : inRange settings ≡ true) (fits : editFits (lengthOf old) edit (length log) ≡ true) where
+    reach : (c : ℕ) → c ≤ length log → Reaches (settings .minimum) (settings .maximum) (length log) c (newCutsOf settings log c)
+    reach = let in-range = ranges settings ok in cuts-reach (mark settings log) (settings .minimum) (settings .maximum) (length log) (omega (arith, in-range .window-fits)) (in-range .ordered)
+
     -- the amended list is well formed for the new length, so that amendments can be chained
     pub amended-again : length log ≤ longest
         → (wellFormed (settings .minimum) (settings .maximum) (amendedList (newCutsOf settings log) old edit) ≡ true)
         × (lengthOf (amendedList (newCutsOf settings log) old edit) ≡ length log)
-    amended-again = any.amended-well-formed settings old edit log ok formed fits
+    amended-again short =
+        let told = edit-told (lengthOf old) edit (length log) fits in (
+          well-formed-again _ _ (length log) edit (newCutsOf settings log) reach old formed (told .0) (told .1) short,
+          new-length _ _ (length log) edit (newCutsOf settings log) reach old formed (told .0) (told .1),
+        )
 
     -- a meeting exists whenever the old log is not empty and the new one is longer than the last front cut
     pub meeting-exists : 0 < lengthOf old → restart (edit .at) old < length log → 0 < length (back (newCutsOf settings log) old edit)
-    meeting-exists = any.meeting-exists settings old edit log ok formed fits
+    meeting-exists =
+        let told = edit-told (lengthOf old) edit (length log) fits in
+        meeting-there _ _ (length log) edit (newCutsOf settings log) reach old formed (told .0) (told .1)
