@@ -26,7 +26,7 @@ use Rattle.amending.specs.declared.Amendment.the-variants.{Amended, Refu
 use Rattle.amending.specs.Parts.{amendedList}
 use Rattle.amending.specs.Answers.{amendmentNumber, frontOf, recutOf, backOf, newCutsOf, counts, editFits, amendRows, amendAnswer, amendLeaves}
 use Rattle.amending.proofs.Fitting.{edit-fits}
-use Rattle.amending.proofs.ByMarks.{amended-by-marks}
+use Rattle.amending.proofs.Amended.{amended-by-marks}
 
 -- the new log is the old one with the edit made: the bytes below the place of the change and those past it are the same
 pub record Replaced (edit : Edit) (log log′ : List ℕ) : Type 0 where

@@ -1,19 +1,22 @@
 -- The amended list of a true old list is the new log cut afresh. Two facts about the two logs' next cuts carry it: what was cut at or
--- below the change's place, the old end excepted, is cut again; and past the change the two logs' cuts lie alike.
+-- below the change's place, the old end excepted, is cut again; and past the change the two logs' cuts lie alike. The one-pass rule supplies both.
 use Prim.Native.Nat.{ℕ, _+_, _-_, _≤_, _<_}
 use mathlib.Core.Path.{_≡_, sym, ap, ap₂, _∙_, subst}
+use mathlib.Core.Bool.{Bool}
 use mathlib.Core.List.{List, _∷_, _++_, map, append-nil}
 use native.Mathlib.Omega.{arith}
 use Rattle.laws.specs.Last.{lastOr}
-use Rattle.rule.specs.Rule.{chain}
+use Rattle.rule.specs.Rule.{next, chain, cutsFrom, cuts}
 use Rattle.rule.proofs.Chain.{Run, stay, onward, Rising, parted, whole, run-after, run-tail, run-all, run-moved}
+use Rattle.rule.proofs.Next.{next-again, next-moves, rising}
 use Rattle.amending.specs.declared.edits.Edit.{Edit}
 use Rattle.amending.specs.Parts.{front, pastFront, restart, moved, recut, back, amendedList}
 use Rattle.amending.specs.Told.{Recut, meeting, no-meeting}
-use Rattle.amending.proofs.Front.{Front, none-old, old-end, beyond, kept, front-is, front-joined, restarts-low}
+use Rattle.amending.proofs.Front.{Front, none-old, old-end, beyond, kept, front-is, front-joined, restart-low}
 use Rattle.amending.proofs.Told.{recut-told}
 
-module _ (next next′ : ℕ → ℕ) (n n′ : ℕ) (edit : Edit) (ok : Rising next n) (ok′ : Rising next′ n′) (inside : edit .at + edit .removed ≤ n) (ends : n + edit .added ≡ n′ + edit .removed)
+module _ (next next′ : ℕ → ℕ) (n n′ : ℕ) (edit : Edit) (ok : Rising next n) (ok′ : Rising next′ n′)
+    (inside : edit .at + edit .removed ≤ n) (ends : n + edit .added ≡ n′ + edit .removed)
     (again : (x : ℕ) → x < n → next x ≤ edit .at → next x < n → next′ x ≡ next x)
     (alike : (x x′ : ℕ) → edit .at + edit .removed ≤ x → x < n → x + edit .added ≡ x′ + edit .removed → next x + edit .added ≡ next′ x′ + edit .removed) where
   -- the front is cut again
@@ -40,14 +43,26 @@ module _ (next next′ : ℕ → ℕ) (n n′ : ℕ) (edit : Edit) (ok : Rising 
       let here : moved edit x ≡ t = omega arith in
       ap (λ l. r ++ l) (ap₂ _∷_ here (sym (run-all next′ n′ ok′ moves) ∙ run-all next′ n′ ok′ (run-tail (run-after r (t ∷ later) new-run)))) ∙ sym is
 
-  pub amended : amendedList (λ c. chain next′ n′ (n′ - c) c) (chain next n (n - 0) 0) edit ≡ chain next′ n′ (n′ - 0) 0
+  amended-list : amendedList (λ c. chain next′ n′ (n′ - c) c) (chain next n (n - 0) 0) edit ≡ chain next′ n′ (n′ - 0) 0
   unfolding amendedList recut back restart
-  amended =
+  amended-list =
       let old = chain next n (n - 0) 0 in
       let parts = front-is (edit .at) old in
       let run = whole next n ok 0 (omega arith) in
-      let low : lastOr 0 (front (edit .at) old) ≤ edit .at = restarts-low (omega arith) parts in
+      let low : lastOr 0 (front (edit .at) old) ≤ edit .at = restart-low (edit .at) old in
       let halves : Run next n 0 (front (edit .at) old ++ pastFront (edit .at) old) n = rw (front-joined parts) run in
       ap (λ l. front (edit .at) old ++ l)
       (tail-again (recut-told edit _ n′ _) (run-after (front (edit .at) old) (pastFront (edit .at) old) halves) (whole next′ n′ ok′ (lastOr 0 (front (edit .at) old)) (omega arith)))
       ∙ sym (parted next′ n′ ok′ (front-again parts run))
+
+-- two logs that are marked alike up to the change, and alike past it with the window behind it
+module _ (mark mark′ : ℕ → Bool) (lo hi n n′ : ℕ) (edit : Edit) (window : 48 ≤ lo) (order : lo ≤ hi)
+    (inside : edit .at + edit .removed ≤ n) (ends : n + edit .added ≡ n′ + edit .removed)
+    (fronts : (q : ℕ) → q ≤ edit .at → mark q ≡ mark′ q)
+    (backs : (q q′ : ℕ) → edit .at + edit .removed + 48 ≤ q → q ≤ n → q + edit .added ≡ q′ + edit .removed → mark q ≡ mark′ q′) where
+  pub amended-by-marks : amendedList (cutsFrom mark′ lo hi n′) (cuts mark lo hi n) edit ≡ cuts mark′ lo hi n′
+  unfolding cutsFrom
+  amended-by-marks =
+      amended-list (next mark lo hi n) (next mark′ lo hi n′) n n′ edit (rising mark lo hi n (omega arith) order) (rising mark′ lo hi n′ (omega arith) order) inside ends
+      (λ x b low below. next-again mark mark′ lo hi n n′ x (omega arith) (λ is. absurd (omega arith)) (λ q far near. fronts q (omega arith)))
+      (λ x x′ far b place. next-moves mark mark′ lo hi n n′ (edit .removed) (edit .added) ends x x′ place (λ y long short fits. backs (x + y) (x′ + y) (omega arith) fits (omega arith)))

@@ -12,7 +12,7 @@ use Rattle.lists.proofs.Reaching.{Reaches, there, step, reaches, fits, reaches-
 use Rattle.amending.specs.declared.edits.Edit.{Edit}
 use Rattle.amending.specs.Parts.{front, pastFront, restart, moved, recut, back, amendedList}
 use Rattle.amending.specs.Told.{Every, none, also, Recut, meeting, no-meeting}
-use Rattle.amending.proofs.Front.{front-is, front-joined, restarts-low, past-some}
+use Rattle.amending.proofs.Front.{front-is, front-joined, restart-low, past-some}
 use Rattle.amending.proofs.Told.{recut-told}
 
 -- what holds of each entry holds of the last
@@ -44,8 +44,8 @@ module _ (lo hi n′ : ℕ) (edit : Edit) (newCuts : ℕ → List ℕ) (reach : 
   past-reaches : Reaches lo hi (lengthOf old) (lastOr 0 (front (edit .at) old)) (pastFront (edit .at) old)
   past-reaches = reaches-after (front (edit .at) old) (pastFront (edit .at) old) old-reaches
 
-  low : lastOr 0 (front (edit .at) old) ≤ n′
-  low = let at-most : lastOr 0 (front (edit .at) old) ≤ edit .at = restarts-low (omega arith) (front-is (edit .at) old) in omega arith
+  low : restart (edit .at) old ≤ n′
+  low = omega (arith, restart-low (edit .at) old)
 
   -- the recut and the back go on from the restart to the new end
   tail-reaches : {c e : ℕ} {past news r b : List ℕ} → Recut edit past n′ news r b e → Reaches lo hi (lengthOf old) c past → Reaches lo hi n′ c news → Reaches lo hi n′ c (r ++ b)

@@ -8,7 +8,7 @@ use lib.ListN.{length, take, drop}
 use borrow.Author.Tests.{le-leb, lt-leb}
 use Rattle.laws.proofs.Cases.{by-lt}
 use Rattle.laws.specs.Last.{lastOr}
-use Rattle.amending.specs.Parts.{frontCount, front, pastFront, until}
+use Rattle.amending.specs.Parts.{frontCount, front, pastFront, restart, until}
 
 -- a list, its front and what follows it
 pub data Front (s : ℕ) : List ℕ → List ℕ → List ℕ → Type 0 where
@@ -67,12 +67,16 @@ front-joined (beyond h) = refl
 front-joined (kept {x = x} h f) = ap (λ k. x ∷ k) (front-joined f)
 
 -- cutting restarts at or below s
-pub restarts-low : {s b : ℕ} {l f p : List ℕ} → b ≤ s → Front s l f p → lastOr b f ≤ s
+restarts-low : {s b : ℕ} {l f p : List ℕ} → b ≤ s → Front s l f p → lastOr b f ≤ s
 unfolding lastOr
 restarts-low low none-old = low
 restarts-low low old-end = low
 restarts-low low (beyond h) = low
 restarts-low low (kept h f) = restarts-low h f
+
+pub restart-low : (s : ℕ) (old : List ℕ) → restart s old ≤ s
+unfolding restart
+restart-low s old = restarts-low (omega arith) (front-is s old)
 
 -- the old end is left, if there is one
 pub past-some : {s : ℕ} {l f p : List ℕ} → Front s l f p → 0 < length l → 0 < length p

@@ -16,15 +16,11 @@ pub mod Recuts
 pub mod Written
 -- the parts are what document 01 says
 pub mod Told
--- the amended list of a true list, over any two rules that agree before and past the change
+-- the amended list of a true list, over marks
 pub mod Amended
--- the same under the one-pass rule, over marks
-pub mod ByMarks
 -- from any well-formed list: well formed again, and a meeting exists
 pub mod Chained
--- two new logs whose cuts agree on the recut stretch, over marks
+-- two new logs that agree on the recut stretch
 pub mod Stretch
 -- the amended list of a true list, over bytes
 pub mod Afresh
--- the recut stretch, over bytes
-pub mod StretchOnly

@@ -27,6 +27,10 @@ pub ascends-after : (k : ℕ) (l : List ℕ) → Ascends l → Ascends (drop k l
 ascends-after k l rises i j h fits =
     rw (getD-drop, getD-drop) (rises (k + i) (k + j) (omega arith) (omega (arith, length-drop k l)))
 
+-- its first entry is the least
+pub first-least : (l : List ℕ) → Ascends l → (i : ℕ) → i < length l → getD l 0 0 ≤ getD l i 0
+first-least l rises i h = by-lt 0 i (λ up. omega (arith, rises 0 i up h)) (λ low. let same : 0 ≡ i = omega arith in omega (arith, ap (λ j. getD l j 0) same))
+
 not-there : (edit : Edit) (t x : ℕ) → (x + edit .added ≡ t + edit .removed → ⊥) → wasAt edit t x ≡ false
 unfolding wasAt
 not-there edit t x other = ne-eqb _ _ other
@@ -81,9 +85,8 @@ module _ (edit : Edit) (t : ℕ) (left : List ℕ) where
           (λ e. e ∙ meets-by (hit e))
           (λ e. let high : placeOf edit t ≤ getD left r 0 =
           leb-true _ _ (heads (subst (Split (leb (placeOf edit t)) left (until (leb (placeOf edit t)) left)) (sym remains ∙ there) (split _ left))) in
-          e ∙ unmet (λ i below. rw getD-drop (λ is. by-lt 0 i
-          (λ h. omega (arith, rises r (r + i) (omega arith) (omega (arith, length-drop r left))))
-          (λ h. let same : r ≡ r + i = omega arith in eqb-false (getD left r 0) _ e (ap (λ k. getD left k 0) same ∙ is)))))
+          e ∙ unmet (λ i below is. eqb-false (getD left r 0) _ e
+          (omega (arith, ap (λ l. getD l 0 0) there, first-least (drop r left) (ascends-after r left rises) i below))))
 
     look-past : Ascends left → Looked edit t left r (meets edit left t)
     look-past rises = record {

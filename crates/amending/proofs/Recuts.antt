@@ -7,7 +7,6 @@ use native.Mathlib.Nat.{add-zero}
 use native.Mathlib.Omega.{arith}
 use lib.ListN.{length, getD, drop, set, length-drop}
 use lib.Seq.{sets, length-sets, drop-length, drop-drop}
-use Rattle.laws.proofs.Cases.{by-lt}
 use Rattle.rule.specs.Rule.{chain}
 use Rattle.rule.proofs.Chain.{Rising, opened, at-end}
 use Rattle.amending.specs.declared.edits.Edit.{Edit}
@@ -15,7 +14,7 @@ use Rattle.amending.specs.Parts.{until, from, wasAt, meets, moved, backF
 use Rattle.amending.specs.Inner.{Ascends, Recutted}
 use Rattle.amending.proofs.Split.{nowhere, here, later, split, until-is, from-is}
 use Rattle.amending.proofs.Meets.{placed}
-use Rattle.amending.proofs.Looking.{Looked, ascends-after}
+use Rattle.amending.proofs.Looking.{Looked, ascends-after, first-least}
 
 -- the new cuts after c
 abbrev after : (ℕ → ℕ) → ℕ → ℕ → List ℕ
@@ -97,9 +96,7 @@ module _ {next : ℕ → ℕ} {n : ℕ} {edit : Edit} {past : List ℕ} {kept : 
         let first : getD (drop (passed + more) past) 0 0 ≡ x = ap (λ l. getD l 0 0) (left ∙ there .onward) in
         settled (passed + more) inside (ap (until (meets edit past)) ahead ∙ until-is (meets edit past) (here hit))
         (ap (backFrom edit past) (ap (from (meets edit past)) ahead ∙ from-is (meets edit past) (here hit)) ∙ ap (map (moved edit)) (sym left))
-        (λ i h. by-lt 0 i
-        (λ k. omega (arith, first, there .place, ascends-after (passed + more) past rises 0 i k h))
-        (λ k. let same : 0 ≡ i = omega arith in omega (arith, ap (λ j. getD (drop (passed + more) past) j 0) same, first, there .place)))
+        (λ i h. omega (arith, first, there .place, first-least (drop (passed + more) past) (ascends-after (passed + more) past rises) i h))
 
     pub recut-more : met ≡ false → Recuts next n edit past kept list₀ start (set list (kept + count) t) t (passed + more) (count + 1)
     recut-more no-met =

@@ -6,6 +6,7 @@ use mathlib.Core.List.{List, [], _∷_, _++_, map}
 use native.Mathlib.Omega.{arith}
 use lib.ListN.{length, getD}
 use borrow.Author.Tests.{ltb-false}
+use Rattle.laws.proofs.Cases.{by-test}
 use Rattle.terms.specs.declared.Settings.{Settings}
 use Rattle.terms.specs.declared.Refusal.{Refusal}
 use Rattle.terms.specs.declared.Refusal.the-variants.{SettingsOutOfRange, LogTooLong, CarryNotInOrder, CarryClosed, RoomTooShort, RecordTooLong, NoSuchSegment, BayNotDone, BayMalformed, ListNotWellFormed, EditOutOfRange, NoSheet, CheckWordWrong, TrailerWrong, OtherLabel, TooManyCuts, ListFull}
@@ -30,7 +31,7 @@ use Rattle.amending.specs.Parts.{front, pastFront, restart, recut, back, amende
 use Rattle.amending.specs.Told.{FrontTold, Recut}
 use Rattle.amending.specs.Answers.{amendmentNumber, frontOf, recutOf, backOf, newCutsOf, editFits, counts, amendRows, amendAnswer, amendLeaves}
 use Rattle.amending.proofs.Afresh.{replaced, amend-cuts-afresh}
-use Rattle.amending.proofs.StretchOnly.{stretch-only-answer, stretch-only-list}
+use Rattle.amending.proofs.Stretch.{stretch-parts}
 use Rattle.amending.proofs.Fitting.{edit-told}
 use Rattle.amending.proofs.Told.{front-told, recut-told}
 use Rattle.amending.proofs.Chained.{well-formed-again, new-length, meeting-there}
@@ -111,10 +112,15 @@ module _ (settings : Settings) (old : List ℕ) (edit : Edit) (log log′ : List
   pub stretch-only : (list : List ℕ)
       → (amendAnswer settings old edit log (length list) ≡ amendAnswer settings old edit log′ (length list))
       × (amendLeaves settings old edit log list ≡ amendLeaves settings old edit log′ list)
-  stretch-only list = (
-    stretch-only-answer settings old edit log log′ same agree (length list),
-    stretch-only-list settings old edit log log′ same agree list,
-  )
+  unfolding amendAnswer amendLeaves amendRows amendedList verdict
+  stretch-only list =
+      by-test (inRange settings)
+      (λ ok. by-test (editFits (lengthOf old) edit (length log))
+      (λ fits. let (recuts, backs) = stretch-parts settings old edit log log′ same agree ok fits in rw (recuts, backs, same) (refl, refl))
+      (λ bad. by-test (wellFormed (settings .minimum) (settings .maximum) old)
+      (λ formed. rw (← same, ok, formed, bad) (refl, refl))
+      (λ malformed. rw (ok, malformed) (refl, refl))))
+      (λ bad. rw bad (refl, refl))
 
 -- from any well-formed old list, true or not
 module _ (settings : Settings) (old : List ℕ) (edit : Edit) (log : List ℕ) (formed : wellFormed (settings .minimum) (settings .maximum) old ≡ true) where
