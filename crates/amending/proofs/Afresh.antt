@@ -18,7 +18,7 @@ use Rattle.terms.specs.Rows.{verdict, ruled}
 use Rattle.terms.proofs.Ranges.{ranges}
 use Rattle.lists.specs.WellFormed.{lengthOf}
 use Rattle.cutting.specs.Marks.{mark, cutList}
-use Rattle.cutting.specs.WholeLog.{cutLogRows, cutLogAnswer, cutLogList}
+use Rattle.cutting.specs.Calls.{cutLogRows, cutLogAnswer, cutLogLeaves}
 use Rattle.cutting.proofs.Marked.{mark-low, marks-by-bytes}
 use Rattle.cutting.proofs.Reaching.{true-list}
 use Rattle.amending.specs.declared.edits.Edit.{Edit}
@@ -88,8 +88,8 @@ module _ (settings : Settings) {edit : Edit} {log log′ : List ℕ} (r : Replac
         let whole = cutLogAnswer settings log′ (length list) in
         (amendmentNumber answer ≡ answerNumber whole)
         × ((frontOf answer + recutOf answer + backOf answer ≡ answerCount whole)
-        × (amendLeaves settings (cutList settings log) edit log′ list ≡ cutLogList settings log′ list))
-    unfolding amendAnswer amendLeaves cutLogAnswer cutLogList frontOf recutOf backOf answerCount
+        × (amendLeaves settings (cutList settings log) edit log′ list ≡ cutLogLeaves settings log′ list))
+    unfolding amendAnswer amendLeaves cutLogAnswer cutLogLeaves frontOf recutOf backOf answerCount
     amend-cuts-afresh =
         rw same-verdict (
           same-number (verdict (cutLogRows settings log′ (length list))) _ _ _ _,

@@ -3,10 +3,9 @@ use Prim.Native.Nat.{ℕ, _+_, _≤_}
 use mathlib.Core.Path.{_≡_}
 use mathlib.Core.Bool.{true, not}
 use mathlib.Core.List.{List, [], _∷_, _++_}
-use native.Mathlib.Omega.{arith}
 use lib.Dec.{leb}
 use borrow.Author.Tests.{leb-true, eqb-true}
-use Rattle.laws.proofs.Cases.{both-true}
+use Rattle.laws.proofs.Cases.{both-true, impossible}
 use Rattle.lists.specs.WellFormed.{isEmpty}
 use Rattle.amending.specs.declared.edits.Edit.{Edit}
 use Rattle.amending.specs.Parts.{until, from, wasAt, meets}
@@ -24,6 +23,6 @@ placed edit past t h = found (from (wasAt edit t) past) (split (wasAt edit t) pa
   where
     found : (k : List ℕ) → Split (wasAt edit t) past (until (wasAt edit t) past) k → (leb (edit .at + edit .added) t ≡ true) × (not (isEmpty k) ≡ true)
         → (x : ℕ) × (rest : List ℕ) × Placed edit past t x rest
-    found [] parts both = absurd (let z : _≡_ {A = ℕ} 0 1 = unfold isEmpty in cc in omega arith)
+    found [] parts both = impossible (unfold isEmpty in cc)
     found (x ∷ k) parts both =
         (x, k, record { far = leb-true _ _ (both .0); place = unfold wasAt in eqb-true _ _ (heads parts); whole = joined parts; onward = from-is (wasAt edit t) parts })

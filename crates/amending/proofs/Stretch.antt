@@ -66,5 +66,5 @@ module _ (settings : Settings) (old : List ℕ) (edit : Edit) (log log′ : List
   stretch-parts ok fits =
       let in-range = ranges settings ok in
       let told = edit-told (lengthOf old) edit (length log) fits in
-      rw (← same) (parts-same (mark settings log) (mark settings log′) (settings .minimum) (settings .maximum) (length log) (omega (arith, in-range .window-fits)) (in-range .ordered) old edit
+      rw (← same) (parts-same (mark settings log) (mark settings log′) (settings .minimum) (settings .maximum) (length log) (in-range .positive) (in-range .ordered) old edit
       (omega (arith, restart-low (edit .at) old)) (λ q low high. marks-between q (omega (arith, in-range .window-fits)) high))

@@ -5,6 +5,7 @@ use mathlib.Core.Bool.{true, false, not}
 use mathlib.Core.List.{List, [], _∷_, append-nil}
 use native.Mathlib.Omega.{arith}
 use borrow.Author.Tests.{eqb-false, le-leb}
+use Rattle.laws.proofs.Cases.{impossible}
 use Rattle.lists.specs.WellFormed.{isEmpty, wellFormed, lengthOf}
 use Rattle.lists.proofs.Reaching.{Reaches, there, step, reaches, reaches-long}
 use Rattle.amending.specs.declared.edits.Edit.{Edit}
@@ -58,7 +59,7 @@ module _ (edit : Edit) (past : List ℕ) where
       none-placed [] parts h =
           let all : until (wasAt edit t) past ≡ past = sym (append-nil _) ∙ joined parts in
           every-so (not-at t) (subst (Every (λ x. wasAt edit t x ≡ false)) all (each-until parts))
-      none-placed (x ∷ k) parts h = absurd (let z : _≡_ {A = ℕ} 0 1 = unfold isEmpty in cc in omega arith)
+      none-placed (x ∷ k) parts h = impossible (unfold isEmpty in cc)
 
   pub recut-told : (n : ℕ) (news : List ℕ)
       → Recut edit past n news (until (meets edit past) news) (backFrom edit past (from (meets edit past) news)) (firstOr n (from (meets edit past) news))

@@ -13,7 +13,7 @@ use Rattle.laws.proofs.Sets.{sets-joined, sets-written}
 use Rattle.terms.specs.declared.Refusal.the-variants.{ListFull}
 use Rattle.lists.specs.WellFormed.{wellFormed, lengthOf}
 use Rattle.lists.proofs.Reaching.{reaches, reaches-long, entries-low, entries-rise}
-use Rattle.cutting.specs.WholeLog.{writtenList}
+use Rattle.lists.specs.Written.{writtenList}
 use Rattle.amending.specs.declared.edits.Edit.{Edit}
 use Rattle.amending.specs.declared.Amendment.the-variants.{Amended, Refused}
 use Rattle.amending.specs.Parts.{frontCount, front, pastFront, restart, shifted, moved, recut, back, amendedList}

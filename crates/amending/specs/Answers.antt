@@ -13,7 +13,7 @@ use Rattle.terms.specs.Rows.{Row, row, verdict, ruled, leaves}
 use Rattle.lists.specs.WellFormed.{wellFormed, lengthOf}
 use Rattle.rule.specs.Rule.{cutsFrom}
 use Rattle.cutting.specs.Marks.{mark}
-use Rattle.cutting.specs.WholeLog.{guard, writtenList}
+use Rattle.lists.specs.Written.{guard, writtenList}
 use Rattle.amending.specs.declared.edits.Edit.{Edit}
 use Rattle.amending.specs.declared.Amendment.{Amendment}
 use Rattle.amending.specs.declared.Amendment.the-variants.{Amended, Refused}

@@ -6,7 +6,7 @@ ghost use lib.ListN.{length};
 ghost use Rattle.terms.specs.Settings.{inRange};
 ghost use Rattle.terms.specs.Answers.{longest};
 ghost use Rattle.lists.specs.WellFormed.{wellFormed, lengthOf};
-ghost use Rattle.cutting.specs.WholeLog.{writtenList};
+ghost use Rattle.lists.specs.Written.{writtenList};
 ghost use Rattle.amending.specs.Parts.{amendedList};
 ghost use Rattle.amending.specs.Answers.{newCutsOf, editFits, partsAnswer, amendAnswer, amendLeaves};
 

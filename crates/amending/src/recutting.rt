@@ -29,13 +29,12 @@ pub fn recut(
     requires { ⌜ (edit .at + edit .added < 2 ^ 64) × (length (now log) + edit .removed < 2 ^ 64) × (kept + length (now log) < 2 ^ 64) ⌝ }
     ensures { λ r. ⌜ Recutted edit (length (now (log .entry))) (now (past .entry)) (newCutsOf settings (now (log .entry)) restart) kept (now (list .entry)) (now (list .exit)) (r .count) (r .passed) ⌝ }
 {
-    let leaving = signature::tables::leaving();
-    let pushed = signature::tables::pushed();
+    let tables = signature::tables();
     let mut cut = restart;
     let mut passed = 0;
     let mut count = 0;
     while cut < log.len() {
-        cut = cutting::search::next_cut(settings, log, cut, &leaving, &pushed);
+        cut = cutting::search::next_cut(settings, log, cut, &tables);
         let found = super::meeting::look(&past[passed..], edit, cut as u64);
         passed += found.passed;
         if found.met {

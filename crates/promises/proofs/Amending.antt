@@ -8,22 +8,23 @@ use lib.ListN.{length, getD}
 use borrow.Author.Tests.{ltb-false}
 use Rattle.laws.proofs.Cases.{by-test}
 use Rattle.terms.specs.declared.Settings.{Settings}
-use Rattle.terms.specs.declared.Refusal.{Refusal}
-use Rattle.terms.specs.declared.Refusal.the-variants.{SettingsOutOfRange, LogTooLong, CarryNotInOrder, CarryClosed, RoomTooShort, RecordTooLong, NoSuchSegment, BayNotDone, BayMalformed, ListNotWellFormed, EditOutOfRange, NoSheet, CheckWordWrong, TrailerWrong, OtherLabel, TooManyCuts, ListFull}
+use Rattle.terms.specs.declared.Refusal.the-variants.{ListFull}
 use Rattle.terms.specs.declared.Verdict.{Verdict}
 use Rattle.terms.specs.declared.Verdict.the-variants.{Fine}
 use Rattle.terms.specs.Refusals.{numberOf}
 use Rattle.terms.specs.Settings.{inRange}
 use Rattle.terms.specs.Answers.{longest}
 use Rattle.terms.specs.Rows.{Row, verdict, ruled, firstRow}
+use Rattle.terms.proofs.Numbers.{numbered}
 use Rattle.terms.proofs.Verdicts.{by-verdict, through, clear, Leaves, refused-leaves}
 use Rattle.terms.proofs.Ranges.{ranges}
 use Rattle.lists.specs.WellFormed.{wellFormed, lengthOf}
 use Rattle.lists.proofs.Reaching.{Reaches}
 use Rattle.cutting.specs.Marks.{mark, cutList}
-use Rattle.cutting.specs.WholeLog.{writtenList, cutLogAnswer, cutLogList}
+use Rattle.lists.specs.Written.{writtenList}
+use Rattle.cutting.specs.Calls.{cutLogAnswer, cutLogLeaves}
 use Rattle.cutting.proofs.Reaching.{cuts-reach}
-use Rattle.cutting.proofs.Written.{written-whole}
+use Rattle.lists.proofs.Written.{written-whole}
 use Rattle.amending.specs.declared.edits.Edit.{Edit}
 use Rattle.amending.specs.declared.Amendment.{Amendment}
 use Rattle.amending.specs.declared.Amendment.the-variants.{Amended, Refused}
@@ -37,28 +38,8 @@ use Rattle.amending.proofs.Told.{front-told, recut-told}
 use Rattle.amending.proofs.Chained.{well-formed-again, new-length, meeting-there}
 use Rattle.promises.specs.Amendments.{Counts, Counted, AsAfresh}
 
--- no refusal bears the number of a success
-some-number : (why : Refusal) → numberOf why ≡ 0 → ⊥
-some-number SettingsOutOfRange = λ is. omega arith
-some-number LogTooLong = λ is. omega arith
-some-number CarryNotInOrder = λ is. omega arith
-some-number CarryClosed = λ is. omega arith
-some-number RoomTooShort = λ is. omega arith
-some-number RecordTooLong = λ is. omega arith
-some-number NoSuchSegment = λ is. omega arith
-some-number BayNotDone = λ is. omega arith
-some-number BayMalformed = λ is. omega arith
-some-number ListNotWellFormed = λ is. omega arith
-some-number EditOutOfRange = λ is. omega arith
-some-number NoSheet = λ is. omega arith
-some-number CheckWordWrong = λ is. omega arith
-some-number TrailerWrong = λ is. omega arith
-some-number OtherLabel = λ is. omega arith
-some-number TooManyCuts = λ is. omega arith
-some-number ListFull = λ is. omega arith
-
 none-holds : (v : Verdict) → ruled v numberOf 0 ≡ 0 → v ≡ Fine
-none-holds v success = by-verdict v (λ fine. fine) (λ why wrong. absurd (some-number why (rw wrong at success)))
+none-holds v success = by-verdict v (λ fine. fine) (λ why wrong. let none : numberOf why ≡ 0 = rw wrong at success in absurd (omega (arith, numbered why)))
 
 -- beside a refusal each count is 0
 pub amend-uncounted : (answer : Amendment) → (amendmentNumber answer ≡ 0 → ⊥) → Counts answer 0 0 0
@@ -102,7 +83,7 @@ pub amended : (settings : Settings) (a removed added b list : List ℕ) → leng
     → let old = cutList settings (a ++ (removed ++ b)) in
     let edit : Edit = record { at = length a; removed = length removed; added = length added } in
     let log = a ++ (added ++ b) in
-    AsAfresh (amendAnswer settings old edit log (length list)) (cutLogAnswer settings log (length list)) (amendLeaves settings old edit log list) (cutLogList settings log list)
+    AsAfresh (amendAnswer settings old edit log (length list)) (cutLogAnswer settings log (length list)) (amendLeaves settings old edit log list) (cutLogLeaves settings log list)
 amended settings a removed added b list short =
     let told = amend-cuts-afresh settings (replaced a removed added b) list short in record { number = told .0; count = told .1 .0; left = told .1 .1 }
 
@@ -133,7 +114,7 @@ module _ (settings : Settings) (old : List ℕ) (edit : Edit) (log : List ℕ) (
 
   module _ (ok : inRange settings ≡ true) (fits : editFits (lengthOf old) edit (length log) ≡ true) where
     reach : (c : ℕ) → c ≤ length log → Reaches (settings .minimum) (settings .maximum) (length log) c (newCutsOf settings log c)
-    reach = let in-range = ranges settings ok in cuts-reach (mark settings log) (settings .minimum) (settings .maximum) (length log) (omega (arith, in-range .window-fits)) (in-range .ordered)
+    reach = let in-range = ranges settings ok in cuts-reach (mark settings log) (settings .minimum) (settings .maximum) (length log) (in-range .positive) (in-range .ordered)
 
     -- the amended list is well formed for the new length, so that amendments can be chained
     pub amended-again : length log ≤ longest

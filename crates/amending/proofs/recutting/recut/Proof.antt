@@ -15,18 +15,18 @@ use Rattle.amending.proofs.recutting.recut.Statement.{statement}
 use Rattle.amending.proofs.recutting.recut.Tie as tie
 
 abbrev Inv-loop : tie.InvT-loop
-Inv-loop settings past start edit log list₀ kept leaving pushed cut₀ passed₀ count₀ list cut passed count =
+Inv-loop settings past start edit log list₀ kept tables cut₀ passed₀ count₀ list cut passed count =
     Recuts (nextCut settings log) (length log) edit past kept list₀ start list cut passed count
 
 abbrev μ-loop : tie.MeasureT-loop
-μ-loop settings past start edit log list₀ kept leaving pushed cut₀ passed₀ count₀ list cut passed count = length log - cut
+μ-loop settings past start edit log list₀ kept tables cut₀ passed₀ count₀ list cut passed count = length log - cut
 
 -- the places of the code that the answers look back to
 abbrev entry : tie.In-loop Inv-loop μ-loop → tie.Start Inv-loop μ-loop
-entry c = c .before .before .before .before .before .before .before
+entry c = c .before .before .before .before .before .before
 
 abbrev turn : tie.After-next-cut Inv-loop μ-loop → tie.In-loop Inv-loop μ-loop
-turn c = c .before .before .before
+turn c = c .before .before
 
 abbrev cut-at : tie.After-look Inv-loop μ-loop → tie.After-next-cut Inv-loop μ-loop
 cut-at c = c .before .before
@@ -47,10 +47,7 @@ loop-holds : tie.Need-loop-holds Inv-loop μ-loop
 loop-holds c = recuts-none _ _ _ _ _ _ _
 
 next-cut-requires : tie.Need-next-cut-requires Inv-loop μ-loop
-next-cut-requires c κs =
-    let here = c .before .before in
-    let made = here .before .before in
-    (entry here .pre .0 .0, (here .loop-test .taken, (made .before .leaving .ensures, made .pushed .ensures)))
+next-cut-requires c κs = (entry (c .before) .pre .0 .0, (c .before .loop-test .taken, c .before .before .before .tables .ensures))
 
 look-requires : tie.Need-look-requires Inv-loop μ-loop
 look-requires c κs =
@@ -99,6 +96,6 @@ returns-2 c = recut-ended (c .before .loop .inv) (c .loop-test .left)
 pub recut-spec : {M : Type 1} → statement M
 recut-spec =
     tie.close
-    (tie.spec Inv-loop μ-loop (λ c κs. search needs) (λ c κs. search needs) loop-holds next-cut-requires (λ c. search needs)
+    (tie.spec Inv-loop μ-loop (λ c κs. search needs) loop-holds next-cut-requires (λ c. search needs)
     (λ c. search needs) (λ c. search needs) (λ c. search needs) look-requires add-passed same-length returns (λ c. search needs)
     (λ c κs. search needs) (λ c. search needs) loop-less loop-again same-length-2 returns-2)
