@@ -58,7 +58,8 @@ module _ (settings : Settings) (old : List ℕ) (edit : Edit) (log : List ℕ) w
   amend-rows room = through amendmentNumber (verdict (amendRows settings old edit log room)) Refused (counts (newCutsOf settings log) old edit)
 
   pub amend-leaves : (list : List ℕ)
-      → Leaves (amendmentNumber (amendAnswer settings old edit log (length list))) 17 list (writtenList (amendedList (newCutsOf settings log) old edit) list) (amendLeaves settings old edit log list)
+      → Leaves (amendmentNumber (amendAnswer settings old edit log (length list))) 17 list (writtenList (amendedList (newCutsOf settings log) old edit) list)
+      (amendLeaves settings old edit log list)
   unfolding amendLeaves
   amend-leaves list = rw (amend-rows (length list)) (refused-leaves (verdict (amendRows settings old edit log (length list))) ListFull)
 
@@ -68,7 +69,8 @@ module _ (settings : Settings) (old : List ℕ) (edit : Edit) (log : List ℕ) w
 
   -- the answer counts the three parts, front, recut and back, and they are written in this order
   pub amended-counted : (list : List ℕ) → amendmentNumber (amendAnswer settings old edit log (length list)) ≡ 0
-      → Counted (amendAnswer settings old edit log (length list)) list (amendLeaves settings old edit log list) (front (edit .at) old) (recut (newCutsOf settings log) old edit) (back (newCutsOf settings log) old edit)
+      → Counted (amendAnswer settings old edit log (length list)) list (amendLeaves settings old edit log list)
+      (front (edit .at) old) (recut (newCutsOf settings log) old edit) (back (newCutsOf settings log) old edit)
   unfolding amendAnswer amendLeaves frontOf recutOf backOf amendedList
   amended-counted list success =
       let fine = none-holds (verdict (amendRows settings old edit log (length list))) (sym (amend-rows (length list)) ∙ success) in
@@ -107,8 +109,8 @@ module _ (settings : Settings) (old : List ℕ) (edit : Edit) (log log′ : List
 module _ (settings : Settings) (old : List ℕ) (edit : Edit) (log : List ℕ) (formed : wellFormed (settings .minimum) (settings .maximum) old ≡ true) where
   -- the three parts that the answer counts, and the recut stretch, are what they say
   pub amended-parts : FrontTold (edit .at) old (front (edit .at) old) (pastFront (edit .at) old) (restart (edit .at) old)
-      × Recut edit (pastFront (edit .at) old) (length log) (newCutsOf settings log (restart (edit .at) old)) (recut (newCutsOf settings log) old edit) (back (newCutsOf settings log) old edit)
-      (stretchEnd (newCutsOf settings log) old edit (length log))
+      × Recut edit (pastFront (edit .at) old) (length log) (newCutsOf settings log (restart (edit .at) old)) (recut (newCutsOf settings log) old edit)
+      (back (newCutsOf settings log) old edit) (stretchEnd (newCutsOf settings log) old edit (length log))
   unfolding recut back stretchEnd
   amended-parts = (front-told (settings .minimum) (settings .maximum) (edit .at) old formed, recut-told edit _ (length log) (newCutsOf settings log (restart (edit .at) old)))
 
