@@ -113,46 +113,46 @@ module _ (mark : ℕ → Bool) (lo hi : ℕ) (positive : 0 < lo) (order : lo ≤
           (λ other. let after : followers marker (b ∷ l) ≡ followers marker l = unfold followers in rw (other, followers) in rw (← after) fit)
 
 module _ (s : Settings) (positive : 0 < s .minimum) (order : s .minimum ≤ s .maximum) (n size width : ℕ) (board : List ℕ) (sized : 0 < size)
-    (fine : verdict (baysRows s size width n board (segments size n) 0) ≡ Fine) where
+    (fine : verdict (baysRows s n size width board (segments n size) 0) ≡ Fine) where
   abbrev bay : ℕ → Record
-  bay i = recordIn (bayOf width board i)
+  bay i = recordIn (bayOf width i board)
 
   abbrev marks : ℕ → Bool
   marks = listedOn size width board
 
-  judged-bay : (i : ℕ) → i < segments size n → Judged s size n i (bayOf width board i)
-  judged-bay i h = subst (λ j. Judged s size n j (bayOf width board j)) (zero-add i) (each-done s size width n board (segments size n) 0 i h fine)
+  judged-bay : (i : ℕ) → i < segments n size → Judged s n size i (bayOf width i board)
+  judged-bay i h = subst (λ j. Judged s n size j (bayOf width j board)) (zero-add i) (each-done s n size width board (segments n size) 0 i h fine)
 
-  own : (i q : ℕ) → segmentStart size i < q → q ≤ segmentEnd size n i → marks q ≡ isListed q (bay i .offsets)
+  own : (i q : ℕ) → segmentStart size i < q → q ≤ segmentEnd n size i → marks q ≡ isListed q (bay i .offsets)
   unfolding listedOn segmentStart segmentEnd
   own i q lo hi =
       let place : (q - 1) / size ≡ i = div-eq-of-lt-le size (omega arith) (omega (arith, suc-mul i size)) in ap (λ j. isListed q (bay j .offsets)) place
 
-  bay-marks : (i : ℕ) → i < segments size n → Marks marks (segmentEnd size n i) (segmentStart size i) (bay i .offsets)
-  bay-marks i h = rising-marks marks (bay i .offsets) (segmentStart size i) (segmentEnd size n i) (judged-bay i h .rises) (own i)
+  bay-marks : (i : ℕ) → i < segments n size → Marks marks (segmentEnd n size i) (segmentStart size i) (bay i .offsets)
+  bay-marks i h = rising-marks marks (bay i .offsets) (segmentStart size i) (segmentEnd n size i) (judged-bay i h .rises) (own i)
 
-  read-bay : (i c : ℕ) → i < segments size n → c ≤ reach size n i → Unmarked marks (c + s .minimum) (suc (reach size n i))
-      → (m : ℕ) × Walked marks (s .minimum) (s .maximum) c (reach size n (suc i)) (bayCuts (s .minimum) (s .maximum) i c (bay i)) m
+  read-bay : (i c : ℕ) → i < segments n size → c ≤ reach n size i → Unmarked marks (c + s .minimum) (suc (reach n size i))
+      → (m : ℕ) × Walked marks (s .minimum) (s .maximum) c (reach n size (suc i)) (bayCuts (s .minimum) (s .maximum) i c (bay i)) m
   unfolding bayCuts
   read-bay zero c h below clear =
-      let start : c ≡ 0 = omega (arith, reach-none size n sized) in
+      let start : c ≡ 0 = omega (arith, reach-none n size sized) in
       let first : segmentStart size 0 ≡ 0 = unfold segmentStart in zero-mul size in
       let both : (eqb (bay 0 .marker) 0 ≡ true) × (stepsWithin (s .minimum) (s .maximum) 0 (bay 0 .offsets) ≡ true) = both-true (unfold markerFits in judged-bay 0 h .fits) in
-      rw (start, ← to-reach size n sized 0)
-      (_, taken marks (s .minimum) (s .maximum) positive order (segmentEnd size n 0) (omega arith) (rw first at (bay-marks 0 h)) (both .1))
+      rw (start, ← to-reach n size sized 0)
+      (_, taken marks (s .minimum) (s .maximum) positive order (segmentEnd n size 0) (omega arith) (rw first at (bay-marks 0 h)) (both .1))
   read-bay (suc i) c h below clear =
-      let begins : segmentStart size (suc i) ≡ reach size n (suc i) = from-reach size n sized (suc i) h in
-      let within = spans size n sized (suc i) h in
+      let begins : segmentStart size (suc i) ≡ reach n size (suc i) = from-reach n size sized (suc i) h in
+      let within = spans n size sized (suc i) h in
       let both : (eqb (bay (suc i) .marker) 0 || isListed (bay (suc i) .marker) (bay (suc i) .offsets) ≡ true)
       × (stepsWithin (s .minimum) (s .maximum) (bay (suc i) .marker) (followers (bay (suc i) .marker) (bay (suc i) .offsets)) ≡ true) =
       both-true (unfold markerFits fromMarker in judged-bay (suc i) h .fits) in
-      rw (← to-reach size n sized (suc i))
-      (read marks (s .minimum) (s .maximum) positive order (segmentEnd size n (suc i)) (bay (suc i) .marker) (bay-marks (suc i) h) c (omega arith) (omega arith) (rw begins clear) (both .1))
+      rw (← to-reach n size sized (suc i))
+      (read marks (s .minimum) (s .maximum) positive order (segmentEnd n size (suc i)) (bay (suc i) .marker) (bay-marks (suc i) h) c (omega arith) (omega arith) (rw begins clear) (both .1))
 
   -- the walk over any board that is accepted is the one-pass rule over the offsets it lists
   pub walk-by-the-rule : boardWalk s n size width board ≡ cuts marks (s .minimum) (s .maximum) n
   unfolding boardWalk
-  walk-by-the-rule = all-bays marks (s .minimum) (s .maximum) positive order size n sized bay read-bay
+  walk-by-the-rule = all-bays marks (s .minimum) (s .maximum) positive order n size sized bay read-bay
 
   -- so that merging writes a well-formed list that ends at n, and the room that was tested is enough for it
   walk-reaches : Reaches (s .minimum) (s .maximum) n 0 (boardWalk s n size width board)

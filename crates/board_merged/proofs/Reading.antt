@@ -62,25 +62,25 @@ module _ (mark : ℕ → Bool) (lo hi : ℕ) (positive : 0 < lo) (order : lo ≤
       (λ d x y. read-after within r d x y)
 
 -- over all bays
-module _ (mark : ℕ → Bool) (lo hi : ℕ) (positive : 0 < lo) (order : lo ≤ hi) (size n : ℕ) (sized : 0 < size) where
+module _ (mark : ℕ → Bool) (lo hi : ℕ) (positive : 0 < lo) (order : lo ≤ hi) (n size : ℕ) (sized : 0 < size) where
   -- from cut c, with nothing left to cut before segment i, through its bay
-  read-bay : (i c : ℕ) → i < segments size n → c ≤ reach size n i → Unmarked mark (c + lo) (suc (reach size n i))
-      → (m : ℕ) × Walked mark lo hi c (reach size n (suc i)) (bayCuts lo hi i c (segmentRecord mark lo hi size n i)) m
+  read-bay : (i c : ℕ) → i < segments n size → c ≤ reach n size i → Unmarked mark (c + lo) (suc (reach n size i))
+      → (m : ℕ) × Walked mark lo hi c (reach n size (suc i)) (bayCuts lo hi i c (segmentRecord mark lo hi n size i)) m
   unfolding bayCuts segmentRecord Read
   read-bay zero c h below clear =
-      let start : c ≡ 0 = omega (arith, reach-none size n sized) in
-      rw (start, to-reach size n sized 0) (_, one-pass mark lo hi positive order 0 (reach size n 1) (omega arith))
+      let start : c ≡ 0 = omega (arith, reach-none n size sized) in
+      rw (start, to-reach n size sized 0) (_, one-pass mark lo hi positive order 0 (reach n size 1) (omega arith))
   read-bay (suc i) c h below clear =
       let a : ℕ = segmentStart size (suc i) in
-      let e : ℕ = segmentEnd size n (suc i) in
-      let begins : a ≡ reach size n (suc i) = from-reach size n sized (suc i) h in
-      let within : a < e = spans size n sized (suc i) h .0 in
-      rw (← to-reach size n sized (suc i))
+      let e : ℕ = segmentEnd n size (suc i) in
+      let begins : a ≡ reach n size (suc i) = from-reach n size sized (suc i) h in
+      let within : a < e = spans n size sized (suc i) h .0 in
+      rw (← to-reach n size sized (suc i))
       (read-slow mark lo hi positive order e (marks-in mark e a (omega arith)) c (omega arith) (omega arith) (rw begins clear))
 
   -- every bay holds its segment's record: the walk's list is the log's
-  pub merged : (bay : ℕ → Record) → ((i : ℕ) → i < segments size n → bay i ≡ segmentRecord mark lo hi size n i)
-      → walk lo hi bay (segments size n) n ≡ cuts mark lo hi n
+  pub merged : (bay : ℕ → Record) → ((i : ℕ) → i < segments n size → bay i ≡ segmentRecord mark lo hi n size i)
+      → walk lo hi bay (segments n size) n ≡ cuts mark lo hi n
   merged bay true-board =
-      all-bays mark lo hi positive order size n sized bay
-      (λ i c h below clear. subst (λ r. (m : ℕ) × Walked mark lo hi c (reach size n (suc i)) (bayCuts lo hi i c r) m) (sym (true-board i h)) (read-bay i c h below clear))
+      all-bays mark lo hi positive order n size sized bay
+      (λ i c h below clear. subst (λ r. (m : ℕ) × Walked mark lo hi c (reach n size (suc i)) (bayCuts lo hi i c r) m) (sym (true-board i h)) (read-bay i c h below clear))

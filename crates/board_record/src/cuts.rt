@@ -7,7 +7,7 @@ ghost use Rattle.signature.specs.Signatures.{leavingTable, pushedTable};
 ghost use Rattle.terms.specs.Settings.{inRange};
 ghost use Rattle.rule.specs.Rule.{cutsUpTo};
 ghost use Rattle.lists.specs.Puts.{Puts};
-ghost use Rattle.board_record.specs.Stretches.{markFrom, Hops};
+ghost use Rattle.board_record.specs.Stretches.{markFrom, hopIn};
 use board_bays::shapes::end_of;
 use cutting::search::seek;
 use lists::Made;
@@ -24,14 +24,14 @@ fn next_hop(
     requires { ⌜ inRange settings ≡ true ⌝ }
     requires { ⌜ (cut ≤ length (now stretch)) × (length (now stretch) ≤ 2 ^ 40) ⌝ }
     requires { ⌜ (now leaving ≡ leavingTable) × (now pushed ≡ pushedTable) ⌝ }
-    ensures { λ r. ⌜ Hops settings (now (stretch .entry)) cut r ⌝ }
+    ensures { λ r. ⌜ r ≡ hopIn settings (now (stretch .entry)) cut ⌝ }
 {
     let maximum = settings.maximum;
     let first = cut + settings.minimum as usize;
     if first > stretch.len() {
         return stretch.len() + 1;
     }
-    let last = end_of(cut as u64, maximum, stretch.len() as u64) as usize;
+    let last = end_of(stretch.len() as u64, cut as u64, maximum) as usize;
     let here = signature::of_window(stretch, first - 48, pushed);
     let spot = seek(settings, stretch, first, last, here, leaving, pushed);
     if spot.found {

@@ -1,4 +1,4 @@
--- `recording::record_segment` meets its contract: the stretch it lends has the log's marks.
+-- `board_record::record_segment` meets its contract: the stretch it lends has the log's marks.
 use borrow.Author.Needs.{needs}
 use native.Mathlib.Omega.{arith}
 use lib.ListN.{length}
@@ -11,10 +11,10 @@ use Rattle.board_record.proofs.record_segment.Statement.{statement}
 use Rattle.board_record.proofs.record_segment.Tie as tie
 
 mul-start : tie.Need-mul-start
-mul-start c = omega (arith, begins-below (c .before .before .before .before .args .size) (length (c .before .before .before .before .args .log .now)) (omega (arith, c .before .before .before .before .pre .1 .large)) (c .before .before .before .before .args .i) (c .before .before .before .before .pre .1 .there), c .before .before .before .before .pre .1 .short)
+mul-start c = omega (arith, begins-below (length (c .before .before .before .before .args .log .now)) (c .before .before .before .before .args .size) (omega (arith, c .before .before .before .before .pre .1 .large)) (c .before .before .before .before .args .i) (c .before .before .before .before .pre .1 .there), c .before .before .before .before .pre .1 .short)
 
 end-of-requires : tie.Need-end-of-requires
-end-of-requires c κs = (omega (arith, begins-below (c .before .before .before .before .args .size) (length (c .before .before .before .before .args .log .now)) (omega (arith, c .before .before .before .before .pre .1 .large)) (c .before .before .before .before .args .i) (c .before .before .before .before .pre .1 .there)), c .before .before .before .before .pre .1 .short, c .before .before .before .before .pre .1 .bounded)
+end-of-requires c κs = (omega (arith, begins-below (length (c .before .before .before .before .args .log .now)) (c .before .before .before .before .args .size) (omega (arith, c .before .before .before .before .pre .1 .large)) (c .before .before .before .before .args .i) (c .before .before .before .before .pre .1 .there)), c .before .before .before .before .pre .1 .short, c .before .before .before .before .pre .1 .bounded)
 
 part-record-cuts-end : tie.Need-part-record-cuts-end
 part-record-cuts-end c = omega (arith, c .before .end-of .ensures)
@@ -32,10 +32,10 @@ sub-base : tie.Need-sub-base
 sub-base c = omega (arith, lead _ (c .before .before .before .before .before .before .args .log .now) _ _ (c .before .before .before .before .before .before .pre .1) (ranges _ (c .before .before .before .before .before .before .pre .0)) _ (c .before .end-of .ensures) (c .if1 .left))
 
 sub-record-marks : tie.Need-sub-record-marks
-sub-record-marks c = omega (arith, begins-below (c .before .before .before .before .before .before .args .size) (length (c .before .before .before .before .before .before .args .log .now)) (omega (arith, c .before .before .before .before .before .before .pre .1 .large)) (c .before .before .before .before .before .before .args .i) (c .before .before .before .before .before .before .pre .1 .there), c .before .end-of .ensures, c .before .before .before .before .before .before .pre .1 .large)
+sub-record-marks c = omega (arith, begins-below (length (c .before .before .before .before .before .before .args .log .now)) (c .before .before .before .before .before .before .args .size) (omega (arith, c .before .before .before .before .before .before .pre .1 .large)) (c .before .before .before .before .before .before .args .i) (c .before .before .before .before .before .before .pre .1 .there), c .before .end-of .ensures, c .before .before .before .before .before .before .pre .1 .large)
 
 part-record-marks-start : tie.Need-part-record-marks-start
-part-record-marks-start c = omega (arith, begins-below (c .before .before .before .before .before .before .args .size) (length (c .before .before .before .before .before .before .args .log .now)) (omega (arith, c .before .before .before .before .before .before .pre .1 .large)) (c .before .before .before .before .before .before .args .i) (c .before .before .before .before .before .before .pre .1 .there), c .before .end-of .ensures, c .before .before .before .before .before .before .pre .1 .large)
+part-record-marks-start c = omega (arith, begins-below (length (c .before .before .before .before .before .before .args .log .now)) (c .before .before .before .before .before .before .args .size) (omega (arith, c .before .before .before .before .before .before .pre .1 .large)) (c .before .before .before .before .before .before .args .i) (c .before .before .before .before .before .before .pre .1 .there), c .before .end-of .ensures, c .before .before .before .before .before .before .pre .1 .large)
 
 part-record-marks-end : tie.Need-part-record-marks-end
 part-record-marks-end c = omega (arith, c .before .end-of .ensures)

@@ -1,4 +1,4 @@
--- `walk::finish` meets its contract.
+-- `board_walk::finish` meets its contract.
 use borrow.Author.Needs.{needs}
 use native.Mathlib.Omega.{arith}
 use Rattle.board_walk.proofs.BayWalks.{end-cut, end-open}

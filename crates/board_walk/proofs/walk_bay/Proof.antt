@@ -1,4 +1,4 @@
--- `walk::walk_bay` meets its contract: segment 0's offsets are cuts, any other's are read as marks.
+-- `board_walk::walk_bay` meets its contract: segment 0's offsets are cuts, any other's are read as marks.
 use borrow.Author.Needs.{needs}
 use mathlib.Core.Path.{sym, ap, _∙_}
 use Rattle.board_bays.specs.Bays.{recordIn}

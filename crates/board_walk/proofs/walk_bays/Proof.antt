@@ -1,4 +1,4 @@
--- `walk::walk_bays` meets its contract. The invariant: the bays before bay i are walked, and the last cut is not past where bay i begins.
+-- `board_walk::walk_bays` meets its contract. The invariant: the bays before bay i are walked, and the last cut is not past where bay i begins.
 use borrow.Author.Needs.{needs}
 use Prim.Native.Nat.{_-_}
 use native.Mathlib.Omega.{arith}
@@ -55,7 +55,7 @@ same-length : tie.Need-same-length Inv-loop μ-loop
 same-length c = same-long (c .before .loop .inv .way)
 
 returns : tie.Need-returns Inv-loop μ-loop
-returns c = (all-walked (c .before .loop .inv) (c .loop-test .left) _ (c .before .before .segments-of .ensures), omega (arith, c .before .loop .inv .low, reach-within (c .before .before .before .before .before .args .size) (c .before .before .before .before .before .args .n) (c .before .loop .i)))
+returns c = (all-walked (c .before .loop .inv) (c .loop-test .left) _ (c .before .before .segments-of .ensures), omega (arith, c .before .loop .inv .low, reach-within (c .before .before .before .before .before .args .n) (c .before .before .before .before .before .args .size) (c .before .loop .i)))
 
 pub walk-bays-spec : {M : Type 1} → statement M
 walk-bays-spec =

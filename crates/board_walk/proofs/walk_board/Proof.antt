@@ -1,4 +1,4 @@
--- `walk::walk_board` meets its contract: the bays, then the end.
+-- `board_walk::walk_board` meets its contract: the bays, then the end.
 use mathlib.Core.Path.{_∙_}
 use native.Mathlib.Omega.{arith}
 use Rattle.terms.proofs.Ranges.{ranges}

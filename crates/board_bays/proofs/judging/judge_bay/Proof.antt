@@ -1,4 +1,4 @@
--- `bays::judging::judge_bay` meets its contract: 8 before 9.
+-- `board_bays::judging::judge_bay` meets its contract: 8 before 9.
 use native.Mathlib.Omega.{arith}
 use mathlib.Core.Path.{ap}
 use mathlib.Core.Bool.{not}

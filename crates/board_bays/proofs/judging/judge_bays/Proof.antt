@@ -1,4 +1,4 @@
--- `bays::judging::judge_bays` meets its contract. The invariant: all bays are judged as those from bay i on are.
+-- `board_bays::judging::judge_bays` meets its contract. The invariant: all bays are judged as those from bay i on are.
 use borrow.Author.Needs.{needs}
 use mathlib.Core.Path.{_≡_, _∙_}
 use Prim.Native.Nat.{_≤_, _-_}
@@ -7,15 +7,15 @@ use native.Mathlib.Omega.{arith}
 use Rattle.board_bays.specs.Judging.{baysRows}
 use Rattle.terms.specs.Rows.{verdict}
 use Rattle.board_bays.proofs.Ranges.{board-shape, bay-within, length-bay}
-use Rattle.board_bays.proofs.Sound.{judged-on, judged-wrong, judged-all, judged-whole}
+use Rattle.board_bays.proofs.Sound.{judged-on, bay-wrong, judged-all, judged-whole}
 use Rattle.board_bays.proofs.judging.judge_bays.Statement.{statement}
 use Rattle.board_bays.proofs.judging.judge_bays.Tie as tie
 
 abbrev Inv-loop : tie.InvT-loop
-Inv-loop settings size width n board count i₀ i = (i ≤ count) × (verdict (baysRows settings size width n board count 0) ≡ verdict (baysRows settings size width n board (count - i) i))
+Inv-loop settings n size width board count i₀ i = (i ≤ count) × (verdict (baysRows settings n size width board count 0) ≡ verdict (baysRows settings n size width board (count - i) i))
 
 abbrev μ-loop : tie.MeasureT-loop
-μ-loop settings size width n board count i₀ i = count - i
+μ-loop settings n size width board count i₀ i = count - i
 
 segments-of-requires : tie.Need-segments-of-requires Inv-loop μ-loop
 segments-of-requires c κs = board-shape _ _ _ _ (c .before .pre .1) .large
@@ -35,7 +35,7 @@ judge-bay-requires c κs =
     )
 
 returns : tie.Need-returns Inv-loop μ-loop
-returns c = judged-whole _ _ _ _ _ (c .before .before .before .before .before .before .before .segments-of .ensures) (c .before .before .before .before .before .before .loop .inv .1 ∙ judged-wrong _ _ _ _ _ _ _ (c .before .before .before .before .before .loop-test .taken) _ (c .before .before .before .before .bay-at .ensures) _ (c .before .before .before .judge-bay .ensures) _ (c .before .why .given .1))
+returns c = judged-whole _ _ _ _ _ (c .before .before .before .before .before .before .before .segments-of .ensures) (c .before .before .before .before .before .before .loop .inv .1 ∙ bay-wrong _ _ _ _ _ _ _ (c .before .before .before .before .before .loop-test .taken) _ (c .before .before .before .before .bay-at .ensures) _ (c .before .before .before .judge-bay .ensures) _ (c .before .why .given .1))
 
 loop-again : tie.Need-loop-again Inv-loop μ-loop
 loop-again c = (search needs, c .before .before .before .before .before .loop .inv .1 ∙ judged-on _ _ _ _ _ _ _ (c .before .before .before .before .loop-test .taken) _ (c .before .before .before .bay-at .ensures) _ (c .before .before .judge-bay .ensures) (c .enum-told .given .1))

@@ -1,4 +1,4 @@
--- `bays::judging::marker_listed` meets its contract. The invariant: the marker fits exactly where it does from place k on.
+-- `board_bays::judging::marker_listed` meets its contract. The invariant: the marker fits exactly where it does from place k on.
 use borrow.Author.Needs.{needs}
 use mathlib.Core.Path.{_≡_, refl, sym, _∙_}
 use Prim.Native.Nat.{_≤_, _-_}

@@ -1,4 +1,4 @@
--- `bays::judging::rises_within` meets its contract. The invariant: the offsets rise exactly where those from place k on do.
+-- `board_bays::judging::rises_within` meets its contract. The invariant: the offsets rise exactly where those from place k on do.
 use borrow.Author.Needs.{needs}
 use mathlib.Core.Path.{_≡_, refl, sym, _∙_}
 use Prim.Native.Nat.{_≤_, _-_}

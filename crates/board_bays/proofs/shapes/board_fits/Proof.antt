@@ -1,4 +1,4 @@
--- `bays::shapes::board_fits` meets its contract: the board is compared by dividing, so that nothing wraps.
+-- `board_bays::shapes::board_fits` meets its contract: the board is compared by dividing, so that nothing wraps.
 use borrow.Author.Needs.{needs}
 use borrow.Author.Tests.{le-leb, lt-leb}
 use native.Mathlib.Omega.{arith}

@@ -1,4 +1,4 @@
--- `recording::cuts::next_hop` meets its contract, each way by its law.
+-- `board_record::cuts::next_hop` meets its contract, each way by its law.
 use native.Mathlib.Omega.{arith}
 use Rattle.terms.proofs.Ranges.{ranges}
 use Rattle.board_record.proofs.Stretching.{too-near, marked-hop, forced-end, open-end}

@@ -1,4 +1,4 @@
--- `recording::cuts::record_cuts` meets its contract. The invariant: the cuts up to the last are made, and the next hop is at hand.
+-- `board_record::cuts::record_cuts` meets its contract. The invariant: the cuts up to the last are made, and the next hop is at hand.
 use borrow.Author.Needs.{needs}
 use Prim.Native.Nat.{_+_, _-_}
 use native.Mathlib.Omega.{arith}

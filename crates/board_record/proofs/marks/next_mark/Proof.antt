@@ -1,4 +1,4 @@
--- `recording::marks::next_mark` meets its contract: the window rolls on by one byte, and the search goes on.
+-- `board_record::marks::next_mark` meets its contract: the window rolls on by one byte, and the search goes on.
 use borrow.Author.Needs.{needs}
 use native.Mathlib.Omega.{arith}
 use Rattle.signature.proofs.Windows.{signature-lt}

@@ -1,4 +1,4 @@
--- `recording::marks::record_after` meets its contract. The invariant: the marks up to the spot are recorded, and the record goes on from it.
+-- `board_record::marks::record_after` meets its contract. The invariant: the marks up to the spot are recorded, and the record goes on from it.
 use borrow.Author.Needs.{needs}
 use Prim.Native.Nat.{_-_}
 use mathlib.Core.Path.{sym, _∙_}

@@ -1,4 +1,4 @@
--- `recording::marks::record_marks` meets its contract: the first mark, and what follows it.
+-- `board_record::marks::record_marks` meets its contract: the first mark, and what follows it.
 use borrow.Author.Needs.{needs}
 use native.Mathlib.Omega.{arith}
 use borrow.Author.Tests.{not-true, not-false}

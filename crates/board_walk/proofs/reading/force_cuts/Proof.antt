@@ -1,4 +1,4 @@
--- `walk::reading::force_cuts` meets its contract. The invariant: the forced cuts are made up to the last one, and the rest are left.
+-- `board_walk::reading::force_cuts` meets its contract. The invariant: the forced cuts are made up to the last one, and the rest are left.
 use borrow.Author.Needs.{needs}
 use Prim.Native.Nat.{_≤_, _-_}
 use native.Mathlib.Omega.{arith}

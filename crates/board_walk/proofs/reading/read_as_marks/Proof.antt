@@ -1,4 +1,4 @@
--- `walk::reading::read_as_marks` meets its contract. The invariant: what is read before place k is made; what is left is read from the last cut on, and rises.
+-- `board_walk::reading::read_as_marks` meets its contract. The invariant: what is read before place k is made; what is left is read from the last cut on, and rises.
 use borrow.Author.Needs.{needs}
 use Prim.Native.Nat.{_+_, _≤_, _-_, _^_}
 use mathlib.Core.Path.{_≡_}

@@ -1,4 +1,4 @@
--- `walk::reading::read_offset` meets its contract: the forced cuts below the offset, then the offset if it is far enough.
+-- `board_walk::reading::read_offset` meets its contract: the forced cuts below the offset, then the offset if it is far enough.
 use borrow.Author.Needs.{needs}
 use native.Mathlib.Omega.{arith}
 use Rattle.board_walk.proofs.Walks.{forced-below, offset-passed, offset-cut}

@@ -1,4 +1,4 @@
--- `walk::reading::take_offsets` meets its contract. The invariant: the offsets before place k are made, and the rest are left and rise.
+-- `board_walk::reading::take_offsets` meets its contract. The invariant: the offsets before place k are made, and the rest are left and rise.
 use borrow.Author.Needs.{needs}
 use Prim.Native.Nat.{_≤_, _-_, _^_}
 use mathlib.Core.Path.{_≡_}

@@ -1,10 +1,10 @@
--- `board::segment::fill_bay` meets its contract: the offsets stand past entries 0 and 1, which are stored last.
+-- `board::filling::fill_bay` meets its contract: the offsets stand past entries 0 and 1, which are stored last.
 use borrow.Author.Needs.{needs}
 use native.Mathlib.Omega.{arith}
 use lib.ListN.{length-set}
 use Rattle.board.proofs.Fills.{record-fitted, record-long}
-use Rattle.board.proofs.segment.fill_bay.Statement.{statement}
-use Rattle.board.proofs.segment.fill_bay.Tie as tie
+use Rattle.board.proofs.filling.fill_bay.Statement.{statement}
+use Rattle.board.proofs.filling.fill_bay.Tie as tie
 
 slice-write-bay-2 : tie.Need-slice-write-bay-2
 slice-write-bay-2 c = simp length-set (omega arith)
