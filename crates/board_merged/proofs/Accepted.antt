@@ -115,9 +115,12 @@ module _ (s : Settings) (positive : 0 < s .minimum) (order : s .minimum ≤ s .m
   unfolding isSound
   sound i h bay held =
       let r : Record = segmentOf s log size i in
-      rw (read-back bay r held, le-leb (offsetCount bay) (length bay - 2) (room bay r held),
-      rises-record (mark s log) (s .minimum) (s .maximum) positive order (length log) size sized i h,
-      fits-record (mark s log) (s .minimum) (s .maximum) positive order (length log) size sized i h)
+      rw (
+        read-back bay r held,
+        le-leb (offsetCount bay) (length bay - 2) (room bay r held),
+        rises-record (mark s log) (s .minimum) (s .maximum) positive order (length log) size sized i h,
+        fits-record (mark s log) (s .minimum) (s .maximum) positive order (length log) size sized i h,
+      )
 
   module _ (width : ℕ) (board : List ℕ) (held : (i : ℕ) → i < segments (length log) size → Holds (bayOf width i board) (segmentOf s log size i)) where
     from-bay : (k i : ℕ) → i + k ≡ segments (length log) size → verdict (baysRows s (length log) size width board k i) ≡ Fine

@@ -2,8 +2,8 @@
 use super::logs;
 use super::logs::all_bits;
 use super::show;
-use board::merging::merge;
-use board::segment::segment;
+use board::merge;
+use board::segment;
 use terms::Settings;
 
 fn join(

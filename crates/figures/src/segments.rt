@@ -2,8 +2,7 @@
 use super::logs;
 use super::logs::all_bits;
 use super::show;
-use board::segment::record_bay;
-use board::segment::segment;
+use board::segment;
 use terms::Settings;
 
 // Records a segment into its bay, and shows the whole board.
@@ -32,7 +31,7 @@ fn second(what: &[u8], minimum: u64, maximum: u64) {
 // The same at 48/200, in a bay lent alone.
 fn alone(what: &[u8], bay: &mut [u64]) {
     let c = logs::c();
-    let answer = record_bay(all_bits(48, 200), &c, 150, 1, bay);
+    let answer = board::record(all_bits(48, 200), &c, 150, 1, bay);
     show::answer(what, answer);
     show::entries(bay);
 }

@@ -5,7 +5,6 @@ use mathlib.Core.List.{List}
 use lib.ListN.{length, take}
 use Rattle.laws.specs.Over.{over}
 use Rattle.terms.specs.Answers.{answerNumber}
-use Rattle.board_bays.specs.Bays.{bayOf}
 use Rattle.pass_carry.specs.declared.Carry.{Carry}
 use Rattle.pass_carry.specs.declared.Outcome.{Outcome}
 
@@ -17,7 +16,3 @@ pub record Leaves (number : ℕ) (before after cuts : List ℕ) : Type 0 where
 -- a call of the single pass that is refused hands back its carry unaltered
 pub record HandsBack (c : Carry) (outcome : Outcome) : Type 0 where
   pub unaltered : (answerNumber (outcome .answer) ≡ 0 → ⊥) → outcome .carry ≡ c
-
--- what recording leaves in a board of bays of so many numbers: every other bay stays as it was, on success too
-pub record OthersStay (width i : ℕ) (before after : List ℕ) : Type 0 where
-  pub others-stay : (j : ℕ) → (i ≡ j → ⊥) → bayOf width after j ≡ bayOf width before j
