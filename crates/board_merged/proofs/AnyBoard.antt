@@ -25,7 +25,8 @@ use Rattle.board_bays.specs.Bays.{Record, bayOf, recordIn, risesWithin, isListe
 use Rattle.board_bays.specs.Judging.{baysRows}
 use Rattle.board_bays.proofs.Ranges.{reach, from-reach, to-reach, reach-none, spans}
 use Rattle.board_bays.proofs.Verdicts.{Judged, each-done}
-use Rattle.board_walk.specs.Walk.{readOffset, readAsMarks, bayCuts, boardWalk, listedOn}
+use Rattle.board_walk.specs.Walk.{readOffset, readAsMarks, bayCuts, boardWalk}
+use Rattle.board_merged.specs.Listed.{listedOn}
 use Rattle.board_walk.proofs.Rises.{risen}
 use Rattle.board_walk.proofs.Offsets.{read-on, read-switch}
 use Rattle.board_record.proofs.Marking.{Marks, none-left, then-mark}

@@ -1,10 +1,10 @@
 -- Merging: the walk over the bays, from cut 0. Document 01, "Segments and the board".
-use Prim.Native.Nat.{ℕ, zero, suc, _+_, _-_, _/_}
-use mathlib.Core.Bool.{Bool, true, false, _&&_}
+use Prim.Native.Nat.{ℕ, zero, suc, _+_, _-_}
+use mathlib.Core.Bool.{true, false, _&&_}
 use mathlib.Core.List.{List, [], _∷_, _++_}
 use lib.Dec.{leb, eqb}
 use Rattle.rule.specs.Rule.{hops, lastOr, closing}
-use Rattle.board_bays.specs.Bays.{Record, bayOf, recordIn, isListed}
+use Rattle.board_bays.specs.Bays.{Record, bayOf, recordIn}
 use Rattle.terms.specs.declared.Settings.{Settings}
 use Rattle.board_bays.specs.Segments.{segments}
 
@@ -50,7 +50,3 @@ module _ (minimum maximum : ℕ) (bay : ℕ → Record) where
 -- the walk over a board's bays
 unfoldable pub boardWalk : (settings : Settings) (n size width : ℕ) (board : List ℕ) → List ℕ
 boardWalk settings n size width board = walk (settings .minimum) (settings .maximum) (λ i. recordIn (bayOf width i board)) (segments n size) n
-
--- offset p is listed on a board, in the bay of its own segment
-unfoldable pub listedOn : (size width : ℕ) (board : List ℕ) (p : ℕ) → Bool
-listedOn size width board p = isListed p (recordIn (bayOf width ((p - 1) / size) board) .offsets)

@@ -22,7 +22,8 @@ use Rattle.board_bays.specs.Bays.{isListed}
 use Rattle.board_bays.specs.Judging.{callRows, baysRows}
 use Rattle.board_bays.proofs.Verdicts.{passed, plain-bays}
 use Rattle.board_bays.proofs.Ranges.{spans, board-shape}
-use Rattle.board_walk.specs.Walk.{boardWalk, listedOn}
+use Rattle.board_walk.specs.Walk.{boardWalk}
+use Rattle.board_merged.specs.Listed.{listedOn}
 use Rattle.board_record.specs.Records.{segmentOf}
 use Rattle.board_record.specs.Told.{RecordTold}
 use Rattle.board_record.proofs.Told as told
