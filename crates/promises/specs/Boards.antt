@@ -1,5 +1,5 @@
 -- What the calls on a board leave and answer: document 01, "Segments and the board" and "Numbers answered".
-use Prim.Native.Nat.{ℕ, zero, suc, _+_}
+use Prim.Native.Nat.{ℕ, zero, suc, _+_, _*_, _≤_, _<_}
 use mathlib.Core.Path.{_≡_}
 use mathlib.Core.Bool.{true}
 use mathlib.Core.List.{List, [], _∷_, map}
@@ -19,6 +19,17 @@ numbers rows = map (λ row. numberOf (row .why)) rows
 unfoldable pub eightNine : (k : ℕ) (later : List ℕ) → List ℕ
 eightNine zero later = later
 eightNine (suc k) later = 8 ∷ 9 ∷ eightNine k later
+
+-- what number 7 asks of S and R, and of the board or the segment
+pub record ShapeTold (size width : ℕ) : Type 0 where
+  pub at-least : 64 ≤ size
+  pub at-most : size ≤ 16_777_216
+  pub wide : 2 ≤ width
+
+-- a number is answered where its reason holds, and only there
+pub record OnlyWhere (number row : ℕ) (fine : Type 0) : Type 0 where
+  pub refused : number ≡ row → fine → ⊥
+  pub passed : (number ≡ row → ⊥) → fine
 
 -- recording leaves every other bay of a board as it was, on success too
 pub record OthersStay (width i : ℕ) (before after : List ℕ) : Type 0 where
