@@ -9,7 +9,7 @@ use Rattle.terms.specs.declared.Answer.{Answer}
 use Rattle.terms.specs.declared.Answer.the-variants.{Wrote, Refused}
 use Rattle.terms.specs.Answers.{roomFor}
 use Rattle.terms.specs.Rows.{Row, row, verdict, ruled, leaves}
-use Rattle.cutting.specs.WholeLog.{guard, writtenList}
+use Rattle.lists.specs.Written.{guard, writtenList}
 use Rattle.board_bays.specs.Judging.{callRows, baysRows}
 use Rattle.board_walk.specs.Walk.{boardWalk}
 use Rattle.board_bays.specs.Segments.{segments, boardFits}

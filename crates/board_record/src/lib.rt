@@ -29,25 +29,17 @@ pub fn record_segment(
     requires { ⌜ (inRange settings ≡ true) × There (length (now log)) size i ⌝ }
     ensures { λ r. ⌜ Records (segmentOf settings (now (log .entry)) size i) 0 r (now (list .entry)) (now (list .exit)) ⌝ }
 {
-    let leaving = signature::tables::leaving();
-    let pushed = signature::tables::pushed();
+    let tables = signature::tables();
     let start = i * size;
     let last = board_bays::shapes::end_of(log.len() as u64, start, size) as usize;
     if i == 0 {
         let none = Made { count: 0, cut: 0 };
-        let made = cuts::record_cuts(settings, &log[0..last], 0, none, list, &leaving, &pushed);
+        let made = cuts::record_cuts(settings, &log[0..last], 0, none, list, &tables);
         return Recorded {
             count: made.count,
             marker: 0,
         };
     }
     let base = start - 47;
-    marks::record_marks(
-        settings,
-        &log[base as usize..last],
-        base,
-        list,
-        &leaving,
-        &pushed,
-    )
+    marks::record_marks(settings, &log[base as usize..last], base, list, &tables)
 }

@@ -9,7 +9,7 @@ use native.Mathlib.Omega.{arith}
 use lib.ListN.{length, set}
 use Rattle.rule.specs.Rule.{lastOr, closing}
 use Rattle.rule.proofs.Hops.{still-open, already}
-use Rattle.cutting.specs.WholeLog.{writtenList}
+use Rattle.lists.specs.Written.{writtenList}
 use Rattle.terms.specs.declared.Settings.{Settings}
 use Rattle.terms.specs.declared.Verdict.the-variants.{Fine}
 use Rattle.terms.specs.Rows.{verdict}

@@ -11,7 +11,7 @@ ghost use Rattle.board_bays.specs.Bays.{bayOf, recordIn, offsetCount, isDone, r
 ghost use Rattle.board_walk.specs.Walk.{bayCuts, baysCuts, lastCuts, boardWalk};
 ghost use Rattle.lists.specs.Puts.{Puts};
 ghost use Rattle.board_bays.specs.Judging.{baysRows};
-ghost use Rattle.cutting.specs.WholeLog.{writtenList};
+ghost use Rattle.lists.specs.Written.{writtenList};
 use lists::Made;
 use terms::Settings;
 

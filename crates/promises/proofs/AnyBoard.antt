@@ -14,7 +14,7 @@ use Rattle.terms.specs.Settings.{inRange}
 use Rattle.terms.specs.Answers.{answerNumber, longest, roomFor}
 use Rattle.terms.specs.Rows.{row, verdict, lacks}
 use Rattle.terms.proofs.Ranges.{ranges}
-use Rattle.terms.proofs.Verdicts.{clear, both-clear}
+use Rattle.terms.proofs.Verdicts.{clear, both-clear, last-holds}
 use Rattle.rule.specs.Rule.{cuts}
 use Rattle.cutting.specs.Marks.{mark, cutList}
 use Rattle.board_bays.specs.Segments.{segments, boardFits}
@@ -31,25 +31,24 @@ use Rattle.board_merged.proofs.Marker as marker
 use Rattle.board_merged.proofs.AnyBoard as any
 use Rattle.board.specs.Merging.{mergeRows, mergeAnswer}
 use Rattle.promises.specs.Boards.{EndsAt}
-use Rattle.promises.proofs.Successes.{last-holds}
 use Rattle.promises.proofs.BoardRows.{merge-rows}
 
 module _ (s : Settings) (n size width : ℕ) (board : List ℕ) (ok : inRange s ≡ true) (sized : 0 < size)
     (accepted : verdict (baysRows s n size width board (segments n size) 0) ≡ Fine) where
   -- the walk's list is the one-pass rule's, with the offsets that the board lists for marks
   pub walk-by-the-rule : boardWalk s n size width board ≡ cuts (listedOn size width board) (s .minimum) (s .maximum) n
-  walk-by-the-rule = let r = ranges s ok in any.walk-by-the-rule s (omega (arith, r .window-fits)) (r .ordered) n size width board sized accepted
+  walk-by-the-rule = let r = ranges s ok in any.walk-by-the-rule s (r .positive) (r .ordered) n size width board sized accepted
 
   -- it is well formed and ends at n
   pub merged-well-formed : n ≤ longest → EndsAt s n (boardWalk s n size width board)
   merged-well-formed short =
       let r = ranges s ok in
-      let both = any.merged-well-formed s (omega (arith, r .window-fits)) (r .ordered) n size width board sized accepted short in
+      let both = any.merged-well-formed s (r .positive) (r .ordered) n size width board sized accepted short in
       record { well-formed = both .0; ends = both .1 }
 
   -- and the room that merging asks for is enough for it
   pub merged-fits : length (boardWalk s n size width board) ≤ roomFor (s .minimum) n
-  merged-fits = let r = ranges s ok in any.merged-fits s (omega (arith, r .window-fits)) (r .ordered) n size width board sized accepted
+  merged-fits = let r = ranges s ok in any.merged-fits s (r .positive) (r .ordered) n size width board sized accepted
 
 -- so merging never answers 17
 pub merge-never-full : (s : Settings) (n size width : ℕ) (board : List ℕ) (room : ℕ) → answerNumber (mergeAnswer s n size width board room) ≡ 17 → ⊥
@@ -71,11 +70,11 @@ merge-never-full s n size width board room full =
 module _ (s : Settings) (log : List ℕ) (size i : ℕ) (ok : inRange s ≡ true) (sized : 0 < size) (there : i < segments (length log) size) where
   -- the record of a segment is as document 01 tells it: its marks, the marker, the one-pass cuts without n where only the log's end makes it one
   pub record-told : RecordTold (mark s log) (s .minimum) (s .maximum) (length log) size i (segmentOf s log size i)
-  record-told = let r = ranges s ok in told.record-told (mark s log) (s .minimum) (s .maximum) (length log) (omega (arith, r .window-fits)) (r .ordered) size sized i there
+  record-told = let r = ranges s ok in told.record-told (mark s log) (s .minimum) (s .maximum) (length log) (r .positive) (r .ordered) size sized i there
 
   -- its marker is a cut of the log, wherever the cuts before it lie
   pub marker-is-cut : 0 < segmentOf s log size i .marker → isListed (segmentOf s log size i .marker) (cutList s log) ≡ true
   marker-is-cut =
       let r = ranges s ok in
-      marker.record-marker (mark s log) (s .minimum) (s .maximum) (omega (arith, r .window-fits)) (r .ordered) (length log) size i
+      marker.record-marker (mark s log) (s .minimum) (s .maximum) (r .positive) (r .ordered) (length log) size i
       (spans (length log) size sized i there .1) (segmentOf s log size i) record-told

@@ -1,5 +1,5 @@
--- `rows` and `refused-leaves` of the calls whose answer is a table of rows: the number is that of the first row that holds, what stands beside it is 0 where
--- one does, and lent memory stays as it was but for one number: 17 keeps the cuts written, 6 what it wrote into the bay.
+-- `orders`, `rows` and `refused-leaves` of the calls on a board: the rows stand in document 01's order, the number is that of the first that holds, the count
+-- beside it is 0 where one does, and lent memory stays as it was but for one number: 17 keeps the cuts written, 6 what it wrote into the bay.
 use Prim.Native.Nat.{ℕ, zero, suc, _+_, _-_}
 use mathlib.Core.Path.{_≡_, refl, sym, ap, _∙_}
 use mathlib.Core.Bool.{false}
@@ -10,53 +10,20 @@ use borrow.Author.Tests.{not-true}
 use Rattle.board_bays.specs.Segments.{segments, bayFits, segmentFits}
 use Rattle.board_bays.specs.Judging.{callRows, bayRows, baysRows}
 use Rattle.board_bays.proofs.Verdicts.{plain-call}
-use Rattle.promises.proofs.Successes.{last-holds}
 use Rattle.terms.specs.declared.Settings.{Settings}
 use Rattle.terms.specs.declared.Answer.the-variants.{Refused}
 use Rattle.terms.specs.declared.Refusal.the-variants.{RecordTooLong, ListFull}
 use Rattle.terms.specs.Answers.{answerNumber, answerCount}
 use Rattle.terms.specs.Rows.{Row, verdict, ruled, firstRow}
-use Rattle.terms.proofs.Verdicts.{through, Leaves, refused-leaves}
-use Rattle.cutting.specs.Marks.{cutList}
-use Rattle.cutting.specs.WholeLog.{writtenList, cutLogRows, cutLogAnswer, cutLogList}
+use Rattle.terms.proofs.Verdicts.{through, last-holds, Leaves, refused-leaves}
+use Rattle.lists.specs.Written.{writtenList}
 use Rattle.board_walk.specs.Walk.{boardWalk}
 use Rattle.board_bays.specs.Bays.{bayOf}
 use Rattle.board_record.specs.Records.{segmentOf}
 use Rattle.board.specs.Recording.{recordFits, recorded, withBay, recordRows, recordAnswer, recordLeaves, segmentRows, segmentAnswer, segmentLeaves}
 use Rattle.board.specs.Merging.{mergeRows, mergeAnswer, mergeLeaves}
 use Rattle.board_merged.proofs.Orders as orders
-use Rattle.amending.specs.declared.edits.Edit.{Edit}
-use Rattle.amending.specs.declared.Amendment.the-variants as amendment
-use Rattle.amending.specs.Parts.{amendedList, front}
-use Rattle.amending.specs.Answers.{amendmentNumber, frontOf, newCutsOf, counts, amendRows, amendAnswer, amendList}
 use Rattle.promises.specs.Boards.{OthersStay, numbers, eightNine}
-
-module _ (s : Settings) (log : List ℕ) where
-  pub whole-log-rows : (room : ℕ) → answerNumber (cutLogAnswer s log room) ≡ firstRow (cutLogRows s log room)
-  unfolding answerNumber cutLogAnswer
-  whole-log-rows room = through answerNumber (verdict (cutLogRows s log room)) Refused _
-
-  pub whole-log-count : (room : ℕ) → answerCount (cutLogAnswer s log room) ≡ ruled (verdict (cutLogRows s log room)) (λ _. 0) (length (cutList s log))
-  unfolding answerCount cutLogAnswer
-  whole-log-count room = through answerCount (verdict (cutLogRows s log room)) Refused _
-
-  pub whole-log-leaves : (list : List ℕ) → Leaves (answerNumber (cutLogAnswer s log (length list))) 17 list (writtenList (cutList s log) list) (cutLogList s log list)
-  unfolding cutLogList
-  whole-log-leaves list = rw (whole-log-rows (length list)) (refused-leaves (verdict (cutLogRows s log (length list))) ListFull)
-
-module _ (s : Settings) (old : List ℕ) (edit : Edit) (log : List ℕ) where
-  pub amend-rows : (room : ℕ) → amendmentNumber (amendAnswer s old edit log room) ≡ firstRow (amendRows s old edit log room)
-  unfolding amendmentNumber amendAnswer
-  amend-rows room = through amendmentNumber (verdict (amendRows s old edit log room)) amendment.Refused (counts (newCutsOf s log) old edit)
-
-  pub amend-front : (room : ℕ) → frontOf (amendAnswer s old edit log room) ≡ ruled (verdict (amendRows s old edit log room)) (λ _. 0) (length (front (edit .at) old))
-  unfolding frontOf amendAnswer
-  amend-front room = through frontOf (verdict (amendRows s old edit log room)) amendment.Refused (counts (newCutsOf s log) old edit)
-
-  pub amend-leaves : (list : List ℕ)
-      → Leaves (amendmentNumber (amendAnswer s old edit log (length list))) 17 list (writtenList (amendedList (newCutsOf s log) old edit) list) (amendList s old edit log list)
-  unfolding amendList
-  amend-leaves list = rw (amend-rows (length list)) (refused-leaves (verdict (amendRows s old edit log (length list))) ListFull)
 
 -- the order of the rows
 bays-order : (s : Settings) (n size width : ℕ) (board : List ℕ) (later : List Row) (k i : ℕ)

@@ -36,14 +36,14 @@ pub merged : (s : Settings) (log : List ℕ) (size width : ℕ) (board : List �
     → ((i : ℕ) → i < segments (length log) size → Holds (bayOf width i board) (segmentOf s log size i))
     → boardWalk s (length log) size width board ≡ cutList s log
 merged s log size width board ok sized held =
-    let in-range = ranges s ok in merging.merged-board s (omega (arith, in-range .window-fits)) (in-range .ordered) log size sized width board held
+    let in-range = ranges s ok in merging.merged-board s (in-range .positive) (in-range .ordered) log size sized width board held
 
 -- such a board is never refused by 8 or 9
 pub true-bays-accepted : (s : Settings) (log : List ℕ) (size width : ℕ) (board : List ℕ) → inRange s ≡ true → 0 < size
     → ((i : ℕ) → i < segments (length log) size → Holds (bayOf width i board) (segmentOf s log size i))
     → verdict (baysRows s (length log) size width board (segments (length log) size) 0) ≡ Fine
 true-bays-accepted s log size width board ok sized held =
-    let in-range = ranges s ok in accepted.true-bays-accepted s (omega (arith, in-range .window-fits)) (in-range .ordered) log size sized width board held
+    let in-range = ranges s ok in accepted.true-bays-accepted s (in-range .positive) (in-range .ordered) log size sized width board held
 
 -- segment calls in any order of a permutation give the same board
 pub any-order : (s : Settings) (log : List ℕ) (size width : ℕ) {is js : List ℕ} → List·Permᴰ is js → (board : List ℕ)
@@ -113,7 +113,7 @@ module _ (s : Settings) (log : List ℕ) (size : ℕ) where
   segments-merged width calls board list k all =
       walk-written width (recordAll s log size width calls board) list
       (λ ok sized. let in-range = ranges s ok in
-      merging.recorded-merged s (omega (arith, in-range .window-fits)) (in-range .ordered) log size sized width calls board (λ i h. wrote-bay width i (length board) calls (all i h)))
+      merging.recorded-merged s (in-range .positive) (in-range .ordered) log size sized width calls board (λ i h. wrote-bay width i (length board) calls (all i h)))
 
   -- each bay was lent alone, to whatever thread and in whatever order, and its call wrote: where merging is not refused either, the list is the log's
   pub bays-merged : (width : ℕ) (board list : List ℕ) (lent : ℕ → List ℕ) (k : ℕ)

@@ -5,3 +5,4 @@ pub mod Hops
 pub mod Leaps
 -- what the cuts up to an offset leave out
 pub mod Recorded
+pub mod Whole

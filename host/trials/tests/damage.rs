@@ -2,7 +2,7 @@
 
 use noise::Noise;
 use thrunglow::{Carry, Settings};
-use trials::{compare, inputs};
+use trials::{compare, damage, inputs};
 
 const TIGHT: Settings = Settings { bits: 31, target: 1, minimum: 48, maximum: 200 };
 
@@ -148,7 +148,7 @@ fn each_bit_of_a_sheet() {
             for _ in 0..2 {
                 compare::read_sheet(&damaged, true, &[7; 9]);
                 compare::read_sheet(&damaged, false, &[7; 9]);
-                inputs::mend_check_word(&mut damaged);
+                damage::mend_check_word(&mut damaged);
             }
         }
     }
@@ -165,7 +165,7 @@ fn each_value_of_a_trailers_field() {
                 for _ in 0..2 {
                     compare::read_sheet(&damaged, true, &[7; 9]);
                     compare::read_sheet(&damaged, false, &[7; 9]);
-                    inputs::mend_check_word(&mut damaged);
+                    damage::mend_check_word(&mut damaged);
                 }
             }
         }

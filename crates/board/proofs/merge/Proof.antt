@@ -9,7 +9,7 @@ use borrow.Author.Tests.{le-ltb, lt-ltb}
 use Rattle.terms.specs.declared.Answer.the-variants.{Refused}
 use Rattle.terms.specs.declared.Refusal.the-variants.{ListFull}
 use Rattle.terms.proofs.Verdicts.{Reaches, top, past, skips, stopped, stopped-in, wrote}
-use Rattle.cutting.specs.WholeLog.{guard, writtenAnswer}
+use Rattle.lists.specs.Written.{guard, writtenAnswer}
 use Rattle.terms.specs.declared.Verdict.the-variants.{Fine}
 use Rattle.terms.specs.Rows.{verdict}
 use Rattle.board_bays.specs.Segments.{segments, boardFits}
@@ -18,7 +18,7 @@ use Rattle.board.specs.Merging.{mergeRows, mergeAnswer, mergeLeaves}
 use Rattle.terms.proofs.Ranges.{ranges}
 use Rattle.board_walk.specs.Walk.{boardWalk}
 use Rattle.board_bays.proofs.Verdicts.{came, passed, plain-call, plain-bays}
-use Rattle.board.proofs.Merges.{list-full, all-written}
+use Rattle.lists.proofs.Written.{list-full, all-written}
 use Rattle.board.proofs.merge.Statement.{statement}
 use Rattle.board.proofs.merge.Tie as tie
 

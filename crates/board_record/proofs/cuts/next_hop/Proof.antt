@@ -21,12 +21,12 @@ sub-of-window : tie.Need-sub-of-window
 sub-of-window c = omega (arith, ranges _ (c .before .before .before .pre .0))
 
 of-window-requires : tie.Need-of-window-requires
-of-window-requires c κs = (omega (arith, ranges _ (c .before .before .before .pre .0), c .before .if1 .left), c .before .before .before .pre .1 .1 .1)
+of-window-requires c κs = (omega (arith, ranges _ (c .before .before .before .pre .0), c .before .if1 .left), c .before .before .before .pre .1 .1)
 
 seek-requires : tie.Need-seek-requires
 seek-requires c κs =
     let allowed = ranges _ (c .before .before .before .before .pre .0) in (
-      c .before .before .before .before .pre .0,
+      allowed .few-bits,
       (
         (omega (arith, allowed .window-fits), omega (arith, allowed .ordered, c .before .before .if1 .left, c .before .end-of .ensures), omega (arith, c .before .end-of .ensures), c .of-window .ensures),
         c .before .before .before .before .pre .1 .1,

@@ -10,10 +10,10 @@ use Rattle.board_record.proofs.cuts.record_cuts.Statement.{statement}
 use Rattle.board_record.proofs.cuts.record_cuts.Tie as tie
 
 abbrev Inv-loop : tie.InvT-loop
-Inv-loop settings stretch base list₀ leaving pushed count₀ cut₀ next₀ list count cut next = Cutting settings stretch base (record { count = count₀; cut = cut₀ }) list₀ list count cut next
+Inv-loop settings stretch base list₀ tables count₀ cut₀ next₀ list count cut next = Cutting settings stretch base (record { count = count₀; cut = cut₀ }) list₀ list count cut next
 
 abbrev μ-loop : tie.MeasureT-loop
-μ-loop settings stretch base list₀ leaving pushed count₀ cut₀ next₀ list count cut next = length stretch + 1 - next
+μ-loop settings stretch base list₀ tables count₀ cut₀ next₀ list count cut next = length stretch + 1 - next
 
 sub-next-hop : tie.Need-sub-next-hop Inv-loop μ-loop
 sub-next-hop c = c .before .before .pre .1 .0 .1

@@ -16,7 +16,7 @@ shared-slice-read-roll-2 : tie.Need-shared-slice-read-roll-2
 shared-slice-read-roll-2 c = c .before .before .before .pre .1 .0 .1
 
 roll-requires : tie.Need-roll-requires
-roll-requires c κs = (signature-lt _ (c .before .before .before .pre .1 .0 .2), c .before .before .before .pre .1 .1 .0, c .before .before .before .pre .1 .1 .1)
+roll-requires c κs = (signature-lt _ (c .before .before .before .pre .1 .0 .2), c .before .before .before .pre .1 .1)
 
 seek-requires : tie.Need-seek-requires
 seek-requires c κs = (c .before .before .before .before .pre .0, ((omega (arith, c .before .before .before .before .pre .1 .0), omega (arith, c .before .before .before .before .pre .1 .0), omega arith, rolled-on _ (λ j. c .before .shared-slice-known3 .given j .fits) _ (c .before .before .before .before .pre .1 .0 .0) (c .before .before .before .before .pre .1 .0 .1) _ _ (c .before .before .before .before .pre .1 .0 .2) (c .roll .ensures)), c .before .before .before .before .pre .1 .1))

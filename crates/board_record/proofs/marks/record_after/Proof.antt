@@ -12,16 +12,16 @@ use Rattle.board_record.proofs.marks.record_after.Statement.{statement}
 use Rattle.board_record.proofs.marks.record_after.Tie as tie
 
 abbrev Inv-loop : tie.InvT-loop
-Inv-loop settings stretch base list₀ leaving pushed minimum maximum spot₀ count₀ list spot count = Slowly settings stretch base spot₀ list₀ list spot count
+Inv-loop settings stretch base list₀ tables minimum maximum spot₀ count₀ list spot count = Slowly settings stretch base spot₀ list₀ list spot count
 
 abbrev μ-loop : tie.MeasureT-loop
-μ-loop settings stretch base list₀ leaving pushed minimum maximum spot₀ count₀ list spot count = length stretch - spot .at
+μ-loop settings stretch base list₀ tables minimum maximum spot₀ count₀ list spot count = length stretch - spot .at
 
 loop-holds : tie.Need-loop-holds Inv-loop μ-loop
 loop-holds c = slow-start _ _ _ (c .before .before .args .first) _ (c .before .before .pre .1 .0 .0) (c .before .before .pre .1 .0 .1) (c .before .before .pre .1 .0 .2)
 
 next-mark-requires : tie.Need-next-mark-requires Inv-loop μ-loop
-next-mark-requires c κs = (c .before .before .before .before .before .pre .0, ((c .before .before .loop .inv .low, c .if1 .taken, c .before .before .loop .inv .here), c .before .before .before .before .before .pre .1 .1))
+next-mark-requires c κs = (ranges _ (c .before .before .before .before .before .pre .0) .few-bits, ((c .before .before .loop .inv .low, c .if1 .taken, c .before .before .loop .inv .here), c .before .before .before .before .before .pre .1 .1))
 
 same-length : tie.Need-same-length Inv-loop μ-loop
 same-length c = same-long (c .before .before .before .before .before .loop .inv .way)

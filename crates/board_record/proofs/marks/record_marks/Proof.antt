@@ -2,15 +2,16 @@
 use borrow.Author.Needs.{needs}
 use native.Mathlib.Omega.{arith}
 use borrow.Author.Tests.{not-true, not-false}
+use Rattle.terms.proofs.Ranges.{ranges}
 use Rattle.board_record.proofs.Slow.{first-none, first-found, records-long}
 use Rattle.board_record.proofs.marks.record_marks.Statement.{statement}
 use Rattle.board_record.proofs.marks.record_marks.Tie as tie
 
 of-window-requires : tie.Need-of-window-requires
-of-window-requires c κs = (omega (arith, c .before .before .pre .1 .0 .0), c .before .before .pre .1 .1 .1)
+of-window-requires c κs = (omega (arith, c .before .before .pre .1 .0 .0), c .before .before .pre .1 .1)
 
 seek-requires : tie.Need-seek-requires
-seek-requires c κs = (c .before .before .before .pre .0, ((omega arith, c .before .before .before .pre .1 .0 .0, omega arith, c .of-window .ensures), c .before .before .before .pre .1 .1))
+seek-requires c κs = (ranges _ (c .before .before .before .pre .0) .few-bits, ((omega arith, c .before .before .before .pre .1 .0 .0, omega arith, c .of-window .ensures), c .before .before .before .pre .1 .1))
 
 returns : tie.Need-returns
 returns c = first-none _ _ _ (c .before .before .before .before .before .before .pre .1 .0 .0) _ (c .before .before .seek .ensures) _ (not-true _ (c .if1 .taken))
