@@ -26,10 +26,6 @@ use Rattle.board.proofs.merge.Tie as tie
 abbrev entry : tie.After-enum-told → tie.Start
 entry c = c .before .before .before .before .before .before
 
-called : (c : tie.After-enum-told)
-    → verdict (callRows (entry c .args .settings) (entry c .args .n) (boardFits (entry c .args .n) (entry c .args .size) (entry c .args .width) (length (entry c .args .board .now)))) ≡ Fine
-called c = came _ _ (c .before .before .judge .ensures) (c .before .before .before .board-fits .ensures) (c .enum-told .given .1)
-
 -- room, and judged by rows 8 and 9
 abbrev roomy : tie.After-enum-told2 → tie.Else1
 roomy c = c .before .before .before
@@ -37,20 +33,34 @@ roomy c = c .before .before .before
 abbrev start : tie.After-enum-told2 → tie.Start
 start c = entry (roomy c .before)
 
+called : (c : tie.After-enum-told)
+    → verdict
+    (callRows (entry c .args .settings) (entry c .args .n)
+    (boardFits (entry c .args .n) (entry c .args .size) (entry c .args .width) (length (entry c .args .board .now)))) ≡ Fine
+called c = came _ _ (c .before .before .judge .ensures) (c .before .before .before .board-fits .ensures) (c .enum-told .given .1)
+
 bays : (c : tie.After-enum-told2)
-    → verdict (baysRows (start c .args .settings) (start c .args .n) (start c .args .size) (start c .args .width) (start c .args .board .now) (segments (start c .args .n) (start c .args .size)) 0) ≡ Fine
+    → verdict
+    (baysRows (start c .args .settings) (start c .args .n) (start c .args .size) (start c .args .width) (start c .args .board .now)
+    (segments (start c .args .n) (start c .args .size)) 0) ≡ Fine
 bays c = sym (c .before .before .judge-bays .ensures) ∙ c .enum-told2 .given .1
 
 -- only the guard is left
 guarded : (c : tie.After-enum-told2)
-    → Reaches (mergeRows (start c .args .settings) (start c .args .n) (start c .args .size) (start c .args .width) (start c .args .board .now) (length (start c .args .list .now)))
-    (guard (boardWalk (start c .args .settings) (start c .args .n) (start c .args .size) (start c .args .width) (start c .args .board .now)) (length (start c .args .list .now)) ∷ [])
+    → Reaches
+    (mergeRows (start c .args .settings) (start c .args .n) (start c .args .size) (start c .args .width) (start c .args .board .now)
+    (length (start c .args .list .now)))
+    (guard (boardWalk (start c .args .settings) (start c .args .n) (start c .args .size) (start c .args .width) (start c .args .board .now))
+    (length (start c .args .list .now)) ∷ [])
 unfolding mergeRows
 guarded c = skips _ (called (roomy c .before)) (past (le-ltb _ _ (roomy c .if1 .left)) (skips _ (bays c) top))
 
 returns : tie.Need-returns
 unfolding mergeAnswer mergeLeaves mergeRows
-returns c = stopped-in ListFull Refused _ _ _ _ _ top (came _ _ (c .before .before .before .judge .ensures) (c .before .before .before .before .board-fits .ensures) (c .before .why .given .1)) (plain-call _ _ _ .1)
+returns c =
+    let judge = c .before .before .before in
+    stopped-in ListFull Refused _ _ _ _ _ top (came _ _ (judge .judge .ensures) (judge .before .board-fits .ensures) (c .before .why .given .1))
+    (plain-call _ _ _ .1)
 
 div-if1 : tie.Need-div-if1
 div-if1 c = omega (arith, ranges (entry c .args .settings) (passed _ _ _ (called c) .0))
@@ -68,8 +78,10 @@ judge-bays-requires c κs = let known = passed _ _ _ (called (c .before)) in (kn
 returns-3 : tie.Need-returns-3
 unfolding mergeAnswer mergeLeaves mergeRows
 returns-3 c =
-    stopped-in ListFull Refused _ _ _ _ _ (skips _ (called (c .before .before .before .before .before)) (past (le-ltb _ _ (c .before .before .before .before .if1 .left)) top))
-    (sym (c .before .before .before .judge-bays .ensures) ∙ c .before .why2 .given .1) (plain-bays _ _ _ _ _ _ _)
+    let judge-bays = c .before .before .before in
+    let else1 = judge-bays .before in
+    stopped-in ListFull Refused _ _ _ _ _ (skips _ (called (else1 .before)) (past (le-ltb _ _ (else1 .if1 .left)) top))
+    (sym (judge-bays .judge-bays .ensures) ∙ c .before .why2 .given .1) (plain-bays _ _ _ _ _ _ _)
 
 walk-board-requires : tie.Need-walk-board-requires
 walk-board-requires c κs = (passed _ _ _ (called (roomy (c .before) .before)), bays (c .before))
@@ -77,12 +89,16 @@ walk-board-requires c κs = (passed _ _ _ (called (roomy (c .before) .before)), 
 returns-4 : tie.Need-returns-4
 unfolding mergeAnswer mergeLeaves writtenAnswer
 returns-4 c =
-    wrote ListFull Refused _ _ _ (guarded (c .before .before .before .before .before)) (list-full (boardWalk _ _ _ _ _) _ (c .before .before .before .walk-board .ensures .0) (c .if2 .taken)) (c .before .before .before .walk-board .ensures .1)
+    let walk-board = c .before .before .before in
+    wrote ListFull Refused _ _ _ (guarded (walk-board .before .before))
+    (list-full (boardWalk _ _ _ _ _) _ (walk-board .walk-board .ensures .0) (c .if2 .taken)) (walk-board .walk-board .ensures .1)
 
 returns-5 : tie.Need-returns-5
 unfolding mergeAnswer mergeLeaves writtenAnswer
 returns-5 c =
-    wrote ListFull Refused _ _ _ (guarded (c .before .before .before .before .before)) (all-written (boardWalk _ _ _ _ _) _ (c .before .before .before .walk-board .ensures .0) (c .if2 .left)) (c .before .before .before .walk-board .ensures .1)
+    let walk-board = c .before .before .before in
+    wrote ListFull Refused _ _ _ (guarded (walk-board .before .before))
+    (all-written (boardWalk _ _ _ _ _) _ (walk-board .walk-board .ensures .0) (c .if2 .left)) (walk-board .walk-board .ensures .1)
 
 pub merge-spec : {M : Type 1} → statement M
 merge-spec =

@@ -28,8 +28,9 @@ called c = came _ _ (c .before .before .judge .ensures) (c .before .before .befo
 returns : tie.Need-returns
 unfolding recordAnswer recordLeaves recordRows
 returns c =
+    let judge = c .before .before .before in
     stopped-in RecordTooLong Refused _ _ _ _ _ top
-    (came _ _ (c .before .before .before .judge .ensures) (c .before .before .before .before .bay-fits .ensures) (c .before .why .given .1)) (plain-call _ _ _ .0)
+    (came _ _ (judge .judge .ensures) (judge .before .bay-fits .ensures) (c .before .why .given .1)) (plain-call _ _ _ .0)
 
 fill-bay-requires : tie.Need-fill-bay-requires
 fill-bay-requires c κs =
@@ -40,8 +41,9 @@ fill-bay-requires c κs =
 returns-2 : tie.Need-returns-2
 unfolding recordAnswer recordLeaves recordRows filledAnswer
 returns-2 c =
+    let enum-told = c .before .before .before .before in
     let filled = c .before .before .fill-bay .ensures in
-    wrote RecordTooLong Refused _ _ _ (skips _ (called (c .before .before .before .before)) top) (filled .0) (filled .1)
+    wrote RecordTooLong Refused _ _ _ (skips _ (called enum-told) top) (filled .0) (filled .1)
 
 pub record-spec : {M : Type 1} → statement M
 record-spec =

@@ -24,7 +24,8 @@ entry c = c .before .before .before .before .before .before
 
 called : (c : tie.After-enum-told)
     → verdict (callRows (entry c .args .settings) (length (entry c .args .log .now))
-    (segmentFits (length (entry c .args .log .now)) (entry c .args .size) (entry c .args .width) (entry c .args .i) (length (entry c .args .board .now)))) ≡ Fine
+    (segmentFits (length (entry c .args .log .now)) (entry c .args .size) (entry c .args .width) (entry c .args .i) (length (entry c .args .board .now))))
+    ≡ Fine
 called c = came _ _ (c .before .before .judge .ensures) (c .before .before .before .segment-fits .ensures) (c .enum-told .given .1)
 
 there : (c : tie.After-enum-told)
@@ -35,8 +36,9 @@ there c = let rows = passed _ _ _ (called c) in segment-there _ _ _ _ _ (rows .1
 returns : tie.Need-returns
 unfolding segmentAnswer segmentLeaves segmentRows
 returns c =
+    let judge = c .before .before .before in
     stopped-in RecordTooLong Refused _ _ _ _ _ top
-    (came _ _ (c .before .before .before .judge .ensures) (c .before .before .before .before .segment-fits .ensures) (c .before .why .given .1)) (plain-call _ _ _ .0)
+    (came _ _ (judge .judge .ensures) (judge .before .segment-fits .ensures) (c .before .why .given .1)) (plain-call _ _ _ .0)
 
 mul-start : tie.Need-mul-start
 mul-start c = omega (arith, there c .2, entry c .good)

@@ -6,17 +6,27 @@ use Rattle.board.proofs.Fills.{record-fitted, record-long}
 use Rattle.board.proofs.filling.fill_bay.Statement.{statement}
 use Rattle.board.proofs.filling.fill_bay.Tie as tie
 
+-- the places of the code that the answers look back to
+abbrev entry : tie.After-record-segment → tie.Start
+entry c = c .before .before .before .before
+
 slice-write-bay-2 : tie.Need-slice-write-bay-2
 slice-write-bay-2 c = simp length-set (omega arith)
 
 returns : tie.Need-returns
-returns c = record-long _ _ (c .before .before .before .before .before .before .before .before .args .bay .now) _ (c .before .before .before .before .before .before .before .before .pre .2) (c .before .before .before .before .record-segment .ensures) (c .if1 .taken)
+returns c =
+    let record-segment = c .before .before .before .before in
+    let start = entry record-segment in
+    record-long _ _ (start .args .bay .now) _ (start .pre .2) (record-segment .record-segment .ensures) (c .if1 .taken)
 
 slice-write-bay-4 : tie.Need-slice-write-bay-4
 slice-write-bay-4 c = simp length-set (omega arith)
 
 returns-2 : tie.Need-returns-2
-returns-2 c = record-fitted _ _ (c .before .before .before .before .before .before .before .before .before .before .args .bay .now) _ (c .before .before .before .before .before .before .before .before .before .before .pre .2) (c .before .before .before .before .before .before .record-segment .ensures) (c .before .before .if1 .left)
+returns-2 c =
+    let record-segment = c .before .before .before .before .before .before in
+    let start = entry record-segment in
+    record-fitted _ _ (start .args .bay .now) _ (start .pre .2) (record-segment .record-segment .ensures) (c .before .before .if1 .left)
 
 pub fill-bay-spec : {M : Type 1} → statement M
 fill-bay-spec =
