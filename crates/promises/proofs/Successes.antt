@@ -17,7 +17,7 @@ use Rattle.terms.specs.Rows.{Row, row, verdict, ruled, firstRow, leaves, lacks}
 use Rattle.terms.proofs.Verdicts.{by-verdict, joined, lacking, succeeded}
 use Rattle.laws.proofs.Cases.{by-test, clash}
 use borrow.Author.Tests.{eq-eqb}
-use Rattle.cutting.specs.WholeLog.{writtenList}
+use Rattle.lists.specs.Written.{writtenList}
 use Rattle.promises.specs.OneList.{Lists}
 
 pub succeeds : (v : Verdict) (m : ℕ) {k : ℕ} → ruled v Refused (Wrote m) ≡ Wrote k → (v ≡ Fine) × (m ≡ k)
