@@ -2,6 +2,7 @@
 use Prim.Native.Nat.{ℕ, _+_, _/_, _^_, _≤_, _<_}
 use mathlib.Core.Path.{_≡_, refl, sym, _∙_}
 use mathlib.Core.Bool.{true, not}
+use mathlib.Core.Logic.{_↔_}
 use mathlib.Core.List.{List, [], _∷_, _++_}
 use native.Mathlib.Omega.{arith}
 use lib.Dec.{ltb}
@@ -34,7 +35,7 @@ use Rattle.amending.specs.Told.{FrontTold, Recut}
 use Rattle.amending.specs.Answers.{amendmentNumber, frontOf, recutOf, backOf, newCutsOf, editFits, counts, amendRows, amendAnswer, amendLeaves}
 use Rattle.amending.proofs.Afresh.{replaced, amend-cuts-afresh}
 use Rattle.amending.proofs.Stretch.{stretch-parts}
-use Rattle.amending.proofs.Fitting.{edit-told}
+use Rattle.amending.proofs.Fitting.{edit-told, edit-fits}
 use Rattle.amending.proofs.Told.{front-told, recut-told}
 use Rattle.amending.proofs.Chained.{well-formed-again, new-length, meeting-there}
 use Rattle.promises.specs.Tables.{numbered}
@@ -42,6 +43,10 @@ use Rattle.promises.specs.Amendments.{Counts, Counted, AsAfresh}
 
 none-holds : (v : Verdict) → ruled v numberOf 0 ≡ 0 → v ≡ Fine
 none-holds v success = by-verdict v (λ fine. fine) (λ why wrong. let none : numberOf why ≡ 0 = rw wrong at success in absurd (omega (arith, some-number why)))
+
+-- an edit that row 11 lets pass: s is not past the old length n, d not past what follows s, and the new length is n - d + e
+pub edit-told-exactly : (n : ℕ) (edit : Edit) (bytes : ℕ) → editFits n edit bytes ≡ true ↔ ((edit .at + edit .removed ≤ n) × (n + edit .added ≡ bytes + edit .removed))
+edit-told-exactly n edit bytes = (edit-told n edit bytes, λ told. edit-fits n edit bytes (omega (arith, told .0)) (omega (arith, told .0)) (told .1))
 
 -- beside a refusal each count is 0
 pub amend-uncounted : (answer : Amendment) → (amendmentNumber answer ≡ 0 → ⊥) → Counts answer 0 0 0
