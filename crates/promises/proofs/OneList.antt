@@ -1,5 +1,5 @@
 -- Demand 2, first half: marks follow Rabin's fingerprint, cuts the one-pass rule, and each way of cutting that is not refused writes that one list.
-use Prim.Native.Nat.{ℕ, _-_, _%_, _^_, _≤_, _<_}
+use Prim.Native.Nat.{ℕ, _-_, _%_, _^_, _<_}
 use mathlib.Core.Path.{_≡_, refl, sym, ap, _∙_}
 use mathlib.Core.Bool.{true}
 use mathlib.Core.Logic.{_↔_}
