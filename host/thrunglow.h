@@ -3,8 +3,10 @@
  * A log is cut into pieces where its content says. A list of cuts has the offset where each piece ends, rising, the log's length
  * last. It belongs to the bytes and the settings alone: every way of cutting gives the same list.
  *
- * Every call takes any arguments. Memory is lent as a pointer and a length in entries, and none is kept; the pointer may be anything
- * where the length is 0. A call may run beside others on other threads as long as no memory that one writes is lent to another.
+ * Every call takes any numbers, bytes, carries, boards, lists and sheets, and answers them. Of memory it asks what C asks of any call: it is
+ * lent as a pointer and a length in entries, and none is kept; the pointer may be anything where the length is 0. What a call writes must not
+ * overlap what it reads: amend into another list than the old one. A call may run beside others on other threads as long as no memory
+ * that one writes is lent to another.
  *
  * A number of 0 is a success. Any other is a refusal: every value beside it is 0, a carry comes back unaltered, and lent memory is
  * untouched (but see thrunglow_segment). docs/HANDBOOK.md says what each number means and what to do.
@@ -85,16 +87,16 @@ thrunglow_Passed thrunglow_close(thrunglow_Carry carry, uint64_t *list, size_t l
 /* The whole log. The list has room for log_length / minimum + 1 entries. */
 thrunglow_Outcome thrunglow_cut_log(thrunglow_Settings settings, const uint8_t *log, size_t log_length, uint64_t *list, size_t list_length);
 
-/* Segment `index` of `size` bytes (64 to 16,777,216), recorded into its bay: `room` entries (2 or more) from board[index * room] on. The
+/* Segment `index` of `size` bytes (64 to 16,777,216), recorded into its bay: `width` entries (2 or more) from board[index * width] on. The
  * board has a bay for each segment, log_length / size of them, rounded up. On number 6 the bay's first two entries are 0, which is
  * "not done", and the others hold the record's first offsets. */
-thrunglow_Outcome thrunglow_segment(thrunglow_Settings settings, const uint8_t *log, size_t log_length, uint64_t size, uint64_t room, uint64_t index, uint64_t *board, size_t board_length);
+thrunglow_Outcome thrunglow_segment(thrunglow_Settings settings, const uint8_t *log, size_t log_length, uint64_t size, uint64_t width, uint64_t index, uint64_t *board, size_t board_length);
 
-/* The same with one bay lent by itself, so that each thread has its own; its room is bay_length. */
+/* The same with one bay lent by itself, so that each thread has its own; its width is bay_length. */
 thrunglow_Outcome thrunglow_record(thrunglow_Settings settings, const uint8_t *log, size_t log_length, uint64_t size, uint64_t index, uint64_t *bay, size_t bay_length);
 
 /* The list of a log of `bytes` bytes from its board. The list has room for bytes / minimum + 1 entries. */
-thrunglow_Outcome thrunglow_merge(thrunglow_Settings settings, uint64_t bytes, uint64_t size, uint64_t room, const uint64_t *board, size_t board_length, uint64_t *list, size_t list_length);
+thrunglow_Outcome thrunglow_merge(thrunglow_Settings settings, uint64_t bytes, uint64_t size, uint64_t width, const uint64_t *board, size_t board_length, uint64_t *list, size_t list_length);
 
 /* The list of the log that came of replacing `removed` bytes at `at` by `added` bytes, from the old log's list. The list has room
  * for log_length / minimum + 1 entries. */

@@ -2,50 +2,19 @@
 use Prim.Native.Nat.{ℕ, _+_, _/_, _^_, _≤_, _<_}
 use mathlib.Core.Path.{_≡_}
 use mathlib.Core.Bool.{Bool, not}
-use mathlib.Core.List.{List, [], _∷_, _++_}
+use mathlib.Core.List.{List, _++_}
 use lib.Dec.{ltb, eqb}
 use lib.ListN.{length, drop, getD, replicate}
 use Rattle.laws.specs.Last.{lastOr}
 use Rattle.terms.specs.declared.Settings.{Settings}
 use Rattle.terms.specs.Settings.{inRange}
-use Rattle.terms.specs.Refusals.{numberOf}
 use Rattle.terms.specs.Answers.{answerNumber, answerCount}
-use Rattle.terms.specs.Rows.{Row}
 use Rattle.rule.specs.Rule.{cutsUpTo}
 use Rattle.signature.specs.Signatures.{signatureOf}
 use Rattle.cutting.specs.Marks.{mark}
 use Rattle.pass_carry.specs.declared.Carry.{Carry}
 use Rattle.pass_carry.specs.declared.Outcome.{Outcome}
 use Rattle.pass_carry.specs.Carries.{inOrder, cutsIn}
-
--- a table's rows, each as its number and when it holds
-unfoldable pub numbered : List Row → List (ℕ × Bool)
-numbered [] = []
-numbered (r ∷ rows) = (numberOf (r .why), r .holds) ∷ numbered rows
-
--- fresh: 1
-unfoldable pub freshTable : (settings : Settings) → List (ℕ × Bool)
-freshTable settings = (1, not (inRange settings)) ∷ []
-
--- block: 1, 3, 4, 2, 5, and the guard
-unfoldable pub blockTable : (c : Carry) (block : List ℕ) (room : ℕ) → List (ℕ × Bool)
-blockTable c block room =
-    (1, not (inRange (c .settings)))
-    ∷ (3, not (inOrder c))
-    ∷ (4, eqb (c .closed) 1)
-    ∷ (2, ltb (2 ^ 40) (c .taken + length block))
-    ∷ (5, ltb room (length block / c .settings .minimum + 1))
-    ∷ (17, ltb room (length (cutsIn c block)))
-    ∷ []
-
--- close: 1, 3, 4, 5
-unfoldable pub closeTable : (c : Carry) (room : ℕ) → List (ℕ × Bool)
-closeTable c room =
-    (1, not (inRange (c .settings)))
-    ∷ (3, not (inOrder c))
-    ∷ (4, eqb (c .closed) 1)
-    ∷ (5, ltb room 1)
-    ∷ []
 
 -- bytes since the last cut are at most the bytes taken and below maximum; the signature is that of the 48; places before the log's start are zero;
 -- the bytes taken are at most 2^40; and it is open or closed
