@@ -8,9 +8,6 @@ use lib.Dec.{leb}
 use lib.ListN.{length}
 use Rattle.laws.proofs.Cases.{by-test}
 use Rattle.terms.specs.declared.Settings.{Settings}
-use Rattle.terms.specs.declared.Label.{Label}
-use Rattle.terms.specs.declared.Answer.{Answer}
-use Rattle.terms.specs.declared.Answer.the-variants.{Wrote, Refused}
 use Rattle.terms.specs.Settings.{inRange}
 use Rattle.terms.specs.Answers.{answerNumber, unless, longest, roomFor}
 use Rattle.terms.specs.declared.Refusal.{Refusal}
@@ -23,11 +20,6 @@ use Rattle.pass_block.specs.Taking.{takenOf}
 use Rattle.pass.specs.Calls.{noCarry, freshOf, blockOf, blockList, closeOf, closeList, closingCut}
 use Rattle.promises.specs.Leaves.{Leaves, HandsBack}
 use Rattle.promises.proofs.Unless.{passNumber, row-leaves, guard-leaves}
-use Rattle.sheet.specs.declared.Sheet.{Sheet}
-use Rattle.sheet.specs.declared.Sheet.the-variants as sheet
-use Rattle.sheet.specs.Write.{writeAnswer, bytesAfter}
-use Rattle.sheet.specs.Read.{readAnswer, listAfter}
-use Rattle.sheet.specs.Answers.{sheetNumber}
 
 -- a refused fresh hands out a carry with every part 0
 pub fresh-leaves : (s : Settings) → (answerNumber (freshOf s .answer) ≡ 0 → ⊥) → freshOf s .carry ≡ noCarry
@@ -75,21 +67,3 @@ close-leaves c list =
     (row-leaves passNumber (not (c .closed)) (omega arith)
     (row-leaves passNumber (leb 1 (length list)) (omega arith)
     (record { untouched = λ refusal guard. absurd (refusal refl); guarded = λ guard. absurd (omega arith) }))))
-
-pub write-sheet-leaves : (s : Settings) (label : Label) (list bytes : List ℕ) → (answerNumber (writeAnswer s list (length bytes)) ≡ 0 → ⊥)
-    → bytesAfter s label list bytes ≡ bytes
-unfolding bytesAfter answerNumber
-write-sheet-leaves s label list bytes refusal = by-answer (writeAnswer s list (length bytes)) refl
-  where
-    by-answer : (answer : Answer) → writeAnswer s list (length bytes) ≡ answer → bytesAfter s label list bytes ≡ bytes
-    by-answer (Wrote size) e = absurd (refusal (rw e))
-    by-answer (Refused why) e = rw (e, bytesAfter)
-
-pub read-sheet-leaves : (bytes : List ℕ) (asked : Label) (list : List ℕ) → (sheetNumber (readAnswer bytes asked (length list)) ≡ 0 → ⊥)
-    → listAfter bytes asked list ≡ list
-unfolding listAfter sheetNumber
-read-sheet-leaves bytes asked list refusal = by-answer (readAnswer bytes asked (length list)) refl
-  where
-    by-answer : (answer : Sheet) → readAnswer bytes asked (length list) ≡ answer → listAfter bytes asked list ≡ list
-    by-answer (sheet.Read label settings count) e = absurd (refusal (rw e))
-    by-answer (sheet.Refused why) e = rw (e, listAfter)

@@ -18,14 +18,15 @@ use Rattle.words.specs.Numbers.{bigEndian, written, numbersOf, numberAt}
 use Rattle.sheet.specs.Trailer.{mark, fields, trailerFor, trailerIn}
 use Rattle.sheet.specs.Sheets.{checked, withCheck, sheetOf}
 use Rattle.words.specs.Runs.{same}
-use Rattle.sheet.specs.Read.{trailerBytes, trailerOf, sheetIn, listIn, hasTrailer, readAnswer}
+use Rattle.sheet.specs.Clean.{trailerBytes, trailerOf, sheetIn, bodyIn, listIn, hasTrailer}
+use Rattle.sheet.specs.Read.{readSheetAnswer}
 use Rattle.words.proofs.BigEndian.{bytes-part}
 use Rattle.sheet.proofs.CheckWord.{checked-word}
 use Rattle.laws.specs.Bytes.{Bytes}
 use Rattle.laws.proofs.Bytes.{bytes-drop}
 use Rattle.words.proofs.Back.{bigEndian-numberAt, written-numbersOf, length-numbersOf}
 use Rattle.sheet.proofs.Lent.{right-facts, there}
-use Rattle.sheet.proofs.Reading.{Clean, was-read}
+use Rattle.sheet.proofs.Reading.{Clean, clean, was-read}
 
 same-true : (a b : List ℕ) → same a b ≡ true → a ≡ b
 unfolding same
@@ -81,7 +82,7 @@ module _ (bytes : List ℕ) (h : Bytes bytes) (asked : Label) (a : Clean bytes) 
       λ i. record { label = label i; settings = trailerOf bytes .settings; zeros = r .zeros i; count = trailerOf bytes .count; distance = r .distance i }
 
   accepted-made : sheetIn bytes ≡ sheetOf (trailerOf bytes .settings) asked (listIn bytes)
-  unfolding sheetOf sheetIn listIn hasTrailer trailerBytes trailerOf
+  unfolding sheetOf sheetIn bodyIn listIn hasTrailer trailerBytes trailerOf
   accepted-made =
       let t = trailerOf bytes in
       let r = right-facts (a .right) in
@@ -99,6 +100,6 @@ module _ (bytes : List ℕ) (h : Bytes bytes) (asked : Label) (a : Clean bytes) 
       ∙ ap₂ (λ (l : List ℕ) (x : Trailer). withCheck (written 8 l ++ fields x)) (sym body) trailer
 
 -- settings, list and label fix every byte: what reads is what the writer writes for them
-pub canonical : (bytes : List ℕ) (asked : Label) (room : ℕ) {label count : ℕ} {settings : Settings} → Bytes bytes → readAnswer bytes asked room ≡ Read label settings count
+pub canonical : (bytes : List ℕ) (asked : Label) (room : ℕ) {label count : ℕ} {settings : Settings} → Bytes bytes → readSheetAnswer bytes asked room ≡ Read label settings count
     → sheetIn bytes ≡ sheetOf settings asked (listIn bytes)
-canonical bytes asked room h e = let r = was-read bytes asked room e in rw (r .the-settings) (accepted-made bytes h asked (r .clean) (r .labelled))
+canonical bytes asked room h e = let r = was-read bytes asked room e in rw (r .the-settings) (accepted-made bytes h asked (clean bytes (r .reads)) (r .labelled))

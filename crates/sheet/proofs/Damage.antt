@@ -25,17 +25,18 @@ use Rattle.sheet.specs.declared.Sheet.the-variants.{Refused}
 use Rattle.words.specs.Numbers.{bigEndian, written, numbersOf, numberAt}
 use Rattle.sheet.specs.Trailer.{mostCuts, fields, trailerFor, trailerIn}
 use Rattle.sheet.specs.Sheets.{total, checkWord, withCheck, sheetOf}
-use Rattle.sheet.specs.Write.{writeAnswer, bytesAfter}
-use Rattle.sheet.specs.Read.{trailerBytes, trailerOf, readAnswer}
+use Rattle.sheet.specs.Clean.{trailerBytes, trailerOf}
+use Rattle.sheet.specs.Write.{writeSheetAnswer, writeSheetLeaves}
+use Rattle.sheet.specs.Read.{readSheetAnswer}
 use Rattle.words.proofs.BigEndian.{length-written}
 use Rattle.laws.specs.Bytes.{Bytes}
 use Rattle.words.proofs.Back.{Wide, numbersOf-written, length-numbersOf, written-numbersOf, numbersOf-wide, drop-written, numberAt-written, bytes-test, bytes-append, bytes-bigEndian, bytes-written}
 use Rattle.sheet.proofs.CheckWord.{checked-adds}
 use Rattle.sheet.proofs.Parts.{sheet-at}
 use Rattle.sheet.proofs.Lent.{right-facts}
-use Rattle.sheet.proofs.Reading.{Clean, not-read}
+use Rattle.sheet.proofs.Reading.{Clean, clean, not-read}
 use Rattle.sheet.proofs.RoundTrip.{Found, found}
-use Rattle.sheet.proofs.Promised.{writable, written-there, length-sheet}
+use Rattle.sheet.proofs.Promised.{was-writable, written-there, written-size, length-sheet}
 
 -- a word exchanged for another moves the sum by their difference
 total-set : (l : List ℕ) (k w : ℕ) → k < length l → total (set l k w) + getD l k 0 ≡ total l + w
@@ -138,13 +139,13 @@ module _ (settings : Settings) (label : Label) (list : List ℕ)
 abbrev pub damaged : (k word : ℕ) → List ℕ → List ℕ
 damaged k word sheet = written 4 (set (numbersOf 4 sheet) k word)
 
-module _ (settings : Settings) (label : Label) (list bytes : List ℕ) {size : ℕ} (wrote : writeAnswer settings list (length bytes) ≡ answer.Wrote size) where
+module _ (settings : Settings) (label : Label) (list bytes : List ℕ) {size : ℕ} (wrote : writeSheetAnswer settings list (length bytes) ≡ answer.Wrote size) where
   -- a word of a written sheet, in body or trailer, that reads as another is refused, whatever stands before and whatever is asked
   pub damage-refused : (k word : ℕ) (before : List ℕ) (asked : Label) (room : ℕ)
-      → k < size / 4 → word < 2 ^ 32 → (word ≡ getD (numbersOf 4 (take size (bytesAfter settings label list bytes))) k 0 → ⊥)
-      → (why : Refusal) × (readAnswer (before ++ damaged k word (take size (bytesAfter settings label list bytes))) asked room ≡ Refused why)
+      → k < size / 4 → word < 2 ^ 32 → (word ≡ getD (numbersOf 4 (take size (writeSheetLeaves settings label list bytes))) k 0 → ⊥)
+      → (why : Refusal) × (readSheetAnswer (before ++ damaged k word (take size (writeSheetLeaves settings label list bytes))) asked room ≡ Refused why)
   damage-refused k word before asked room inside fits =
-      let w = writable settings list (length bytes) wrote in
+      let w = was-writable settings label list bytes wrote in
       let s = sheet-words settings label list (w .in-range) (w .well-formed) (w .few) in
       rw (written-there settings label list bytes wrote)
-      (λ differs. not-read _ asked room (λ a. differs (not-clean before (numbersOf 4 (sheetOf settings label list)) (length list) k word s (omega (arith, w .whole, s .size)) fits a)))
+      (λ differs. not-read _ asked room (λ reads. let a = clean _ reads in differs (not-clean before (numbersOf 4 (sheetOf settings label list)) (length list) k word s (omega (arith, written-size settings label list bytes wrote, s .size)) fits a)))

@@ -2,7 +2,7 @@
 use mathlib.Core.Path.{_≡_, _∙_}
 use mathlib.Core.Bool.{Bool, true}
 use mathlib.Core.List.{List}
-use Prim.Native.Nat.{ℕ, _+_, _-_, _*_, _/_, _≤_}
+use Prim.Native.Nat.{ℕ, _+_, _-_, _*_, _≤_}
 use native.Mathlib.Omega.{arith}
 use lib.Dec.{leb}
 use lib.ListN.{length, take, drop, length-drop}
@@ -11,11 +11,11 @@ use borrow.Author.Tests.{le-leb, leb-true, eqb-true}
 use Rattle.laws.proofs.Slices.{rest-from}
 use Rattle.laws.proofs.Cases.{both-true}
 use Rattle.terms.specs.Settings.{inRange}
-use Rattle.words.specs.Numbers.{numbersOf}
 use Rattle.words.specs.Runs.{same}
 use Rattle.sheet.specs.declared.trailer.Trailer.{Trailer}
 use Rattle.sheet.specs.Trailer.{mark, mostCuts, isLabel, trailerIn, trailerRight}
-use Rattle.sheet.specs.Read.{trailerBytes, trailerOf, sheetIn, listIn, hasTrailer}
+use Rattle.sheet.specs.Clean.{trailerBytes, trailerOf, sheetIn, bodyIn, hasTrailer}
+use Rattle.sheet.specs.Inner.{Placed}
 
 pub record Right (before : ℕ) (t : Trailer) : Type 0 where
   pub zeros : t .zeros ≡ 0
@@ -33,10 +33,6 @@ right-facts {t = t} ok =
     record { zeros = eqb-true _ _ (c .0); distance = eqb-true _ _ (e .0); body = leb-true _ _ (e .1) }
 
 module _ (bytes : List ℕ) where
-  -- bytes from a place on, as they are lent
-  pub lent-long : (k n : ℕ) → k + n ≤ length bytes → n ≤ length (take (length bytes - k) (drop k bytes))
-  lent-long k n h = rw (rest-from bytes k, length-drop) (omega arith)
-
   pub marked-is : {r : Bool} → 32 ≤ length bytes → r ≡ same mark (take (length bytes - 32 + 4 - (length bytes - 32)) (drop (length bytes - 32) bytes)) → r ≡ hasTrailer bytes
   unfolding hasTrailer trailerBytes
   marked-is h e =
@@ -47,22 +43,29 @@ module _ (bytes : List ℕ) where
   unfolding hasTrailer
   there present = let halves = both-true present in (leb-true _ _ (halves .0), halves .1)
 
-  pub trailer-is : {t : Trailer} → t ≡ trailerIn (take (length bytes - (length bytes - 32)) (drop (length bytes - 32) bytes)) → t ≡ trailerOf bytes
+  -- the last 32 bytes, as they are lent
+  pub last-long : 32 ≤ length bytes → 32 ≤ length (take (length bytes - (length bytes - 32)) (drop (length bytes - 32) bytes))
+  last-long h = rw (rest-from bytes (length bytes - 32), length-drop) (omega arith)
+
+  pub trailer-lent : {t : Trailer} → t ≡ trailerIn (take (length bytes - (length bytes - 32)) (drop (length bytes - 32) bytes)) → t ≡ trailerOf bytes
   unfolding trailerOf trailerBytes
-  trailer-is e = e ∙ rw (rest-from bytes (length bytes - 32))
+  trailer-lent e = e ∙ rw (rest-from bytes (length bytes - 32))
 
-  module _ {t : Trailer} (e : t ≡ trailerOf bytes) (fits : t .distance ≤ length bytes - 32) where
-    whole : length bytes - 32 - (length bytes - 32 - t .distance) ≡ t .distance
-    whole = omega arith
-
-    pub sheet-is : take (length bytes - (length bytes - 32 - t .distance)) (drop (length bytes - 32 - t .distance) bytes) ≡ sheetIn bytes
+  module _ {distance : ℕ} (p : Placed distance bytes) where
+    pub sheet-lent : take (length bytes - (length bytes - 32 - distance)) (drop (length bytes - 32 - distance) bytes) ≡ sheetIn bytes
     unfolding sheetIn
-    sheet-is = rw e (rest-from bytes (length bytes - 32 - trailerOf bytes .distance))
+    sheet-lent = rw (p .told) (rest-from bytes (length bytes - 32 - trailerOf bytes .distance))
 
-    pub list-is : numbersOf 8 (take (length bytes - 32 - (length bytes - 32 - t .distance)) (drop (length bytes - 32 - t .distance) bytes)) ≡ listIn bytes
-    unfolding listIn sheetIn
-    list-is = rw (whole, e)
+    pub length-sheet-in : length (sheetIn bytes) ≡ distance + 32
+    unfolding sheetIn
+    length-sheet-in = rw (← (p .told), length-drop) (omega (arith, p .fits))
 
-    pub list-room : {room : ℕ} → t .distance ≡ 8 * t .count → t .count ≤ room
-        → length (take (length bytes - 32 - (length bytes - 32 - t .distance)) (drop (length bytes - 32 - t .distance) bytes)) / 8 ≤ room
-    list-room counted h = rw (whole, length-take-le (t .distance) (drop (length bytes - 32 - t .distance) bytes) (rw length-drop (omega arith))) (omega arith)
+    pub body-lent : take (length bytes - 32 - (length bytes - 32 - distance)) (drop (length bytes - 32 - distance) bytes) ≡ bodyIn bytes
+    unfolding bodyIn sheetIn
+    body-lent =
+        let whole : length bytes - 32 - (length bytes - 32 - distance) ≡ distance = omega (arith, p .fits) in
+        rw (whole, p .told)
+
+    pub length-body : length (bodyIn bytes) ≡ distance
+    unfolding bodyIn
+    length-body = rw (← (p .told)) (length-take-le distance (sheetIn bytes) (omega (arith, length-sheet-in)))

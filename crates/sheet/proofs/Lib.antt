@@ -1,3 +1,4 @@
+pub mod Keeping
 pub mod CheckWord
 pub mod Offsets
 pub mod Parts

@@ -4,7 +4,7 @@ use mathlib.Core.List.{List, [], _∷_, _++_}
 use Prim.Native.Nat.{ℕ, _+_, _-_, _*_, _≤_}
 use native.Mathlib.Omega.{arith}
 use lib.Seq.{drop-append-seam}
-use Rattle.sheet.specs.Read.{trailerBytes, trailerOf, sheetIn}
+use Rattle.sheet.specs.Clean.{trailerBytes, trailerOf, sheetIn}
 use lib.ListN.{length, take, length-append}
 use Rattle.laws.specs.Over.{over, overFrom}
 use Rattle.laws.proofs.Writing.{take-over, overFrom-zero, overFrom-over, overFrom-join}

@@ -6,7 +6,7 @@ use Prim.Native.Nat.{ℕ, _+_, _-_, _*_, _^_, _≤_, _<_}
 use native.Mathlib.Omega.{arith}
 use native.Mathlib.Nat.{mod-eq-of-lt}
 use lib.Pow.{pow-mono}
-use lib.Dec.{leb, eqb, lit<}
+use lib.Dec.{lit<}
 use lib.ListN.{length, length-append, take}
 use lib.Seq.{take-append-seam, drop-append-seam, take-all, take-at}
 use borrow.Author.Tests.{eq-eqb, le-leb}
@@ -23,14 +23,11 @@ use Rattle.words.specs.Numbers.{bigEndian, number, written, numbersOf, numberAt
 use Rattle.sheet.specs.Trailer.{mostCuts, isLabel, fields, trailerIn, trailerFor, trailerRight}
 use Rattle.sheet.specs.Sheets.{checkWord, checked, withCheck, sheetOf}
 use Rattle.words.specs.Runs.{same}
-use Rattle.sheet.specs.Read.{trailerBytes, trailerOf, sheetIn, listIn, hasTrailer, hasList, readAnswer}
+use Rattle.sheet.specs.Clean.{trailerBytes, trailerOf, sheetIn, bodyIn, listIn, hasTrailer, hasList}
 use Rattle.words.proofs.BigEndian.{length-bigEndian, length-written, number-bigEndian}
 use Rattle.sheet.proofs.CheckWord.{checkWord-lt}
 use Rattle.words.proofs.Back.{Wide, numbersOf-written}
-use Rattle.sheet.specs.declared.Sheet.the-variants.{Read, Refused}
-use Rattle.terms.specs.declared.Refusal.the-variants.{OtherLabel, RoomTooShort}
-use Rattle.terms.specs.Answers.{unless}
-use Rattle.sheet.proofs.Reading.{Clean, clean-rows}
+use Rattle.sheet.proofs.Reading.{Clean}
 use Rattle.sheet.proofs.Parts.{length-fields, length-front, trailer-at, sheet-at}
 
 -- the entries of a well-formed list are 8 bytes wide
@@ -97,7 +94,7 @@ pub record Found (settings : Settings) (label : Label) (list bytes : List ℕ) :
 module _ (settings : Settings) (label : Label) (list before : List ℕ)
     (in-range : inRange settings ≡ true) (well-formed : wellFormed (settings .minimum) (settings .maximum) list ≡ true) (few : length list ≤ mostCuts) where
   pub found : Found settings label list (before ++ sheetOf settings label list)
-  unfolding sheetOf withCheck trailerOf trailerFor listIn hasList
+  unfolding sheetOf withCheck trailerOf trailerFor bodyIn listIn hasList
   found =
       let t = trailerFor settings label (length list) in
       let body = written 8 list in
@@ -124,10 +121,3 @@ module _ (settings : Settings) (label : Label) (list before : List ℕ)
         listed = rw (the-list, trailer) well-formed;
       } in
       record { clean = clean; trailer = trailer; the-list = the-list }
-
-  -- the label and the room decide
-  pub found-decides : (asked : Label) (room : ℕ)
-      → readAnswer (before ++ sheetOf settings label list) asked room
-      ≡ unless (eqb (byteOf label) (byteOf asked)) (Refused OtherLabel) (unless (leb (length list) room) (Refused RoomTooShort) (Read (byteOf label) settings (length list)))
-  unfolding readAnswer trailerFor
-  found-decides asked room = clean-rows Refused _ (found .clean) ∙ rw (found .trailer)

@@ -1,4 +1,4 @@
-// The offsets of a body: judged where they stand, and written to a list.
+// The sheet and its body where they stand in bytes; the offsets of a body, judged there and written to a list.
 use words::numbers::number_at;
 ghost use mathlib.Core.Path.{_≡_};
 ghost use Prim.Native.Nat.{_/_, _≤_};
@@ -6,6 +6,27 @@ ghost use lib.ListN.{length};
 ghost use Rattle.laws.specs.Over.{over};
 ghost use Rattle.lists.specs.WellFormed.{wellFormed};
 ghost use Rattle.words.specs.Numbers.{numbersOf};
+ghost use Rattle.sheet.specs.Clean.{sheetIn, bodyIn};
+ghost use Rattle.sheet.specs.Inner.{Placed};
+
+// The sheet at the end of bytes. It is inner: the caller gives its trailer's distance and sees that the body fits.
+pub fn sheet_in<'a>(distance: u64, bytes: &'a [u8]) -> &'a [u8]
+    requires { ⌜ Placed distance (now bytes) ⌝ }
+    ensures { λ r. ⌜ now r ≡ sheetIn (now (bytes .entry)) ⌝ }
+{
+    let start = bytes.len() - 32 - distance as usize;
+    &bytes[start..]
+}
+
+// The body of that sheet. It is inner in the same way.
+pub fn body_in<'a>(distance: u64, bytes: &'a [u8]) -> &'a [u8]
+    requires { ⌜ Placed distance (now bytes) ⌝ }
+    ensures { λ r. ⌜ now r ≡ bodyIn (now (bytes .entry)) ⌝ }
+{
+    let end = bytes.len() - 32;
+    let start = end - distance as usize;
+    &bytes[start..end]
+}
 
 // Whether the offsets of a body are a well-formed list.
 pub fn is_well_formed(minimum: u64, maximum: u64, body: &[u8]) -> bool

@@ -10,7 +10,7 @@ ghost use Prim.Native.Nat.{_+_, _*_, _≤_, _<_};
 ghost use lib.ListN.{length};
 ghost use Rattle.laws.specs.Over.{overFrom};
 ghost use Rattle.sheet.specs.Trailer.{fields, trailerIn, trailerFor, isLabel, trailerRight};
-ghost use Rattle.sheet.specs.Read.{hasTrailer};
+ghost use Rattle.sheet.specs.Clean.{hasTrailer, trailerOf};
 
 // The fields of a trailer, as they stand in its bytes.
 pub struct Trailer {
@@ -33,7 +33,7 @@ pub fn has_trailer(bytes: &[u8]) -> bool
 }
 
 // The fields of a trailer. It is inner: the caller sees that there are 32 bytes.
-pub fn trailer_in(bytes: &[u8]) -> Trailer
+fn trailer_in(bytes: &[u8]) -> Trailer
     requires { ⌜ 32 ≤ length (now bytes) ⌝ }
     ensures { λ r. ⌜ r ≡ trailerIn (now (bytes .entry)) ⌝ }
 {
@@ -53,6 +53,15 @@ pub fn trailer_in(bytes: &[u8]) -> Trailer
         count: number_at(4, 20, bytes),
         distance: number_at(4, 24, bytes),
     }
+}
+
+// The trailer at the end of bytes. It is inner: the caller sees that there are 32 bytes.
+pub fn trailer_of(bytes: &[u8]) -> Trailer
+    requires { ⌜ 32 ≤ length (now bytes) ⌝ }
+    ensures { λ r. ⌜ r ≡ trailerOf (now (bytes .entry)) ⌝ }
+{
+    let at = bytes.len() - 32;
+    trailer_in(&bytes[at..])
 }
 
 // Whether a byte stands for a label.

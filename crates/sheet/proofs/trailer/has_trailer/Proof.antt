@@ -1,7 +1,7 @@
 -- `sheet::trailer::has_trailer` meets its contract: the first four of the last 32 bytes are compared with the byte string.
 use borrow.Author.Needs.{needs}
 use borrow.Author.Tests.{lt-leb}
-use Rattle.sheet.specs.Read.{hasTrailer}
+use Rattle.sheet.specs.Clean.{hasTrailer}
 use Rattle.sheet.proofs.Lent.{marked-is}
 use Rattle.sheet.proofs.trailer.has_trailer.Statement.{statement}
 use Rattle.sheet.proofs.trailer.has_trailer.Tie as tie

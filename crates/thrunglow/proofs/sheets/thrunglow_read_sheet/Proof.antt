@@ -2,7 +2,7 @@
 use mathlib.Core.Path.{ap, _∙_}
 use denote.Ref.{now}
 use lib.ListN.{length}
-use Rattle.sheet.specs.Read.{readAnswer, listAfter}
+use Rattle.sheet.specs.Read.{readSheetAnswer, readSheetLeaves}
 use Rattle.thrunglow.specs.Sheets.{readingOf}
 use borrow.Author.Needs.{needs}
 use Rattle.thrunglow.proofs.sheets.thrunglow_read_sheet.Statement.{statement}
@@ -13,8 +13,8 @@ returns c =
     let read = c .before .before .before .read-sheet .ensures in
     let a = c .before .before .before .before .before .before .before .before .args in
     let asked = c .before .before .before .before .before .label-of .ensures in (
-      c .reading-of .ensures ∙ ap readingOf (read .0 ∙ ap (λ label. readAnswer (now (a .bytes)) label (length (now (a .list)))) asked),
-      read .1 ∙ ap (λ label. listAfter (now (a .bytes)) label (now (a .list))) asked,
+      c .reading-of .ensures ∙ ap readingOf (read .0 ∙ ap (λ label. readSheetAnswer (now (a .bytes)) label (length (now (a .list)))) asked),
+      read .1 ∙ ap (λ label. readSheetLeaves (now (a .bytes)) label (now (a .list))) asked,
     )
 
 pub thrunglow-read-sheet-spec : {M : Type 1} → statement M
