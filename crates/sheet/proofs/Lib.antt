@@ -1,10 +1,6 @@
+-- what a call answers and leaves that writes only where no row holds
 pub mod Keeping
-pub mod CheckWord
-pub mod Offsets
-pub mod Parts
-pub mod Lent
+-- which rows of reading decide
 pub mod Reading
-pub mod RoundTrip
+-- what writing and reading promise of each other
 pub mod Promised
-pub mod Damage
-pub mod Canonical

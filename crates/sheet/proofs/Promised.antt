@@ -1,10 +1,10 @@
--- What writing and reading a sheet promise of each other: the round trip, live is live, and the words add to zero.
-use mathlib.Core.Path.{_≡_, refl, sym, ap, _∙_}
+-- What writing and reading a sheet promise of each other: the round trip, and live is live.
+use mathlib.Core.Path.{_≡_, sym, ap, _∙_}
 use mathlib.Core.Bool.{true}
 use mathlib.Core.List.{List, _++_}
-use Prim.Native.Nat.{ℕ, _+_, _*_, _%_, _^_, _≤_}
+use Prim.Native.Nat.{ℕ, _+_, _*_, _≤_}
 use native.Mathlib.Omega.{arith}
-use lib.ListN.{length, take, getD, length-append}
+use lib.ListN.{length, take, getD}
 use borrow.Author.Tests.{ltb-false, not-false}
 use Rattle.laws.proofs.Writing.{take-over}
 use Rattle.laws.specs.Over.{over}
@@ -20,19 +20,18 @@ use Rattle.terms.specs.Settings.{inRange}
 use Rattle.terms.specs.Rows.{verdict}
 use Rattle.terms.proofs.Verdicts.{clear, succeeded}
 use Rattle.lists.specs.WellFormed.{wellFormed}
+use Rattle.sheet_format.specs.declared.trailer.Trailer.{Trailer}
+use Rattle.sheet_format.specs.Forms.{cutsForm}
+use Rattle.sheet_format.specs.Trailer.{mostCuts, trailerFor, trailerIn}
+use Rattle.sheet_format.specs.Sheets.{sheetOf}
+use Rattle.sheet_format.specs.Clean.{trailerBytes, trailerOf}
+use Rattle.sheet_format.proofs.Forms.{cuts-formed}
+use Rattle.sheet_format.proofs.Cleanly.{cleanly}
+use Rattle.sheet_format.proofs.RoundTrip.{Found, found, length-sheet}
 use Rattle.sheet.specs.declared.Sheet.the-variants.{Read, Refused}
-use Rattle.sheet.specs.declared.trailer.Trailer.{Trailer}
-use Rattle.words.specs.Numbers.{written, numbersOf}
-use Rattle.sheet.specs.Trailer.{mostCuts, trailerFor, fields, trailerIn}
-use Rattle.sheet.specs.Sheets.{total, withCheck, sheetOf}
-use Rattle.sheet.specs.Clean.{trailerBytes, trailerOf}
 use Rattle.sheet.specs.Write.{writeSheetRows, writeSheetAnswer, writeSheetLeaves}
 use Rattle.sheet.specs.Read.{readSheetRows, readSheetAnswer, readSheetLeaves}
-use Rattle.words.proofs.BigEndian.{length-bigEndian}
-use Rattle.sheet.proofs.Parts.{length-front}
-use Rattle.sheet.proofs.Reading.{cleanly, label-refuses, none-refuses, was-read}
-use Rattle.sheet.proofs.RoundTrip.{Found, checked-with, found}
-use Rattle.sheet.proofs.CheckWord.{checked-adds}
+use Rattle.sheet.proofs.Reading.{label-refuses, none-refuses, was-read}
 
 -- no row of writing holds
 pub record Writable (settings : Settings) (list : List ℕ) (room : ℕ) : Type 0 where
@@ -49,10 +48,6 @@ writable settings list room e =
     let f = clear TooManyCuts _ _ (w .1) in
     let m = clear RoomTooShort _ _ (f .1) in
     record { in-range = not-false _ (r .0); well-formed = not-false _ (w .0); few = ltb-false _ _ (f .0); roomy = ltb-false _ _ (m .0) }
-
-pub length-sheet : (settings : Settings) (label : Label) (list : List ℕ) → length (sheetOf settings label list) ≡ 8 * length list + 32
-unfolding sheetOf withCheck
-length-sheet settings label list = rw (length-append, length-front, length-bigEndian) (omega arith)
 
 module _ (settings : Settings) (label : Label) (list bytes : List ℕ) {size : ℕ} (wrote : writeSheetAnswer settings list (length bytes) ≡ answer.Wrote size) where
   passed : (verdict (writeSheetRows settings list (length bytes)) ≡ Fine) × (8 * length list + 32 ≡ size)
@@ -72,30 +67,22 @@ module _ (settings : Settings) (label : Label) (list bytes : List ℕ) {size : �
   was-writable = writable settings list (length bytes) (passed .0)
 
   -- what a success answers is what it wrote
-  pub written-there : take size (writeSheetLeaves settings label list bytes) ≡ sheetOf settings label list
+  pub written-there : take size (writeSheetLeaves settings label list bytes) ≡ sheetOf cutsForm settings label list
   unfolding writeSheetLeaves
   written-there =
-      let whole : size ≡ length (sheetOf settings label list) = sym (passed .1) ∙ sym (length-sheet settings label list) in
-      rw (passed .0, whole) (take-over (sheetOf settings label list) bytes)
-
-  -- all 32-bit words of body and trailer add to zero modulo 2^32
-  pub words-add-to-zero : total (numbersOf 4 (take size (writeSheetLeaves settings label list bytes))) % 2 ^ 32 ≡ 0
-  unfolding sheetOf
-  words-add-to-zero =
-      rw written-there
-      (checked-adds (sheetOf settings label list) (2 * length list + 7) (length-sheet settings label list ∙ omega arith)
-      (checked-with (written 8 list ++ fields (trailerFor settings label (length list)))))
+      let whole : size ≡ length (sheetOf cutsForm settings label list) = sym (passed .1) ∙ sym (length-sheet cutsForm cuts-formed settings label list (was-writable .in-range)) in
+      rw (passed .0, whole) (take-over (sheetOf cutsForm settings label list) bytes)
 
   module _ (before lent : List ℕ) where
     -- what the reader finds
-    read-back : Found settings label list (before ++ sheetOf settings label list)
-    read-back = let w = was-writable in found settings label list before (w .in-range) (w .well-formed) (w .few)
+    read-back : Found cutsForm settings label list (before ++ sheetOf cutsForm settings label list)
+    read-back = let w = was-writable in found cutsForm cuts-formed settings label list (w .in-range) before (w .well-formed) (w .few)
 
-    the-label : trailerOf (before ++ sheetOf settings label list) .label ≡ byteOf label
+    the-label : trailerOf (before ++ sheetOf cutsForm settings label list) .label ≡ byteOf label
     unfolding trailerFor
     the-label = ap (λ (t : Trailer). t .label) (read-back .trailer)
 
-    the-count : trailerOf (before ++ sheetOf settings label list) .count ≡ length list
+    the-count : trailerOf (before ++ sheetOf cutsForm settings label list) .count ≡ length list
     unfolding trailerFor
     the-count = ap (λ (t : Trailer). t .count) (read-back .trailer)
 
@@ -105,7 +92,7 @@ module _ (settings : Settings) (label : Label) (list bytes : List ℕ) {size : �
         × (readSheetLeaves (before ++ take size (writeSheetLeaves settings label list bytes)) label lent ≡ over list lent)
     unfolding readSheetAnswer readSheetLeaves trailerFor
     round-trip roomy =
-        let sheet = before ++ sheetOf settings label list in
+        let sheet = before ++ sheetOf cutsForm settings label list in
         let v : verdict (readSheetRows sheet label (length lent)) ≡ Fine =
         none-refuses sheet label (length lent) (cleanly (read-back .clean)) the-label (rw the-count roomy) in
         rw written-there (rw (v, read-back .trailer), rw (v, read-back .the-list))
@@ -116,7 +103,7 @@ module _ (settings : Settings) (label : Label) (list bytes : List ℕ) {size : �
         × (readSheetLeaves (before ++ take size (writeSheetLeaves settings label list bytes)) asked lent ≡ lent)
     unfolding readSheetAnswer readSheetLeaves
     other-refused asked other =
-        let v = label-refuses (before ++ sheetOf settings label list) asked (length lent) (cleanly (read-back .clean)) (λ same. other (sym the-label ∙ same)) in
+        let v = label-refuses (before ++ sheetOf cutsForm settings label list) asked (length lent) (cleanly (read-back .clean)) (λ same. other (sym the-label ∙ same)) in
         rw written-there (rw v, rw v)
 
 -- demand 1: what is read when live is asked bears L, in the answer and in the trailer's bytes

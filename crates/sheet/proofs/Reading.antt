@@ -1,85 +1,46 @@
--- Reading a sheet: what the rows that passed say of the bytes, and what an answer says of them.
+-- Reading a sheet: which rows decide, and what an answer says of the bytes.
 use mathlib.Core.Path.{_≡_, sym, ap, _∙_}
-use mathlib.Core.Bool.{Bool, true, not}
+use mathlib.Core.Bool.{not}
 use mathlib.Core.List.{List}
-use Prim.Native.Nat.{ℕ, _-_, _≤_, _<_}
+use Prim.Native.Nat.{ℕ, _≤_, _<_}
 use native.Mathlib.Omega.{arith}
-use lib.ListN.{length}
 use borrow.Author.Tests.{eqb-true, eq-eqb, ne-eqb, ltb-false, le-ltb, lt-ltb, not-false}
 use Rattle.terms.specs.declared.Settings.{Settings}
 use Rattle.terms.specs.declared.Label.{Label}
 use Rattle.terms.specs.declared.Refusal.{Refusal}
-use Rattle.terms.specs.declared.Refusal.the-variants.{NoSheet, TrailerWrong, CheckWordWrong, ListNotWellFormed, OtherLabel, RoomTooShort}
+use Rattle.terms.specs.declared.Refusal.the-variants.{OtherLabel, RoomTooShort}
 use Rattle.terms.specs.declared.Verdict.the-variants.{Fine, Wrong}
 use Rattle.terms.specs.Labels.{byteOf}
 use Rattle.terms.specs.Rows.{verdict}
 use Rattle.terms.proofs.Verdicts.{by-verdict, joined, clear, both-clear, top, past, skips, judged-wrong, judged-fine, succeeded}
-use Rattle.lists.specs.WellFormed.{wellFormed}
-use Rattle.words.specs.Numbers.{numbersOf}
+use Rattle.sheet_format.specs.Forms.{cutsForm}
+use Rattle.sheet_format.specs.Clean.{trailerOf, cleanRows, ReadsCleanly}
 use Rattle.sheet.specs.declared.Sheet.the-variants.{Read, Refused}
-use Rattle.sheet.specs.declared.trailer.Trailer.{Trailer}
-use Rattle.sheet.specs.Trailer.{trailerRight}
-use Rattle.sheet.specs.Sheets.{checked}
-use Rattle.sheet.specs.Clean.{trailerOf, sheetIn, bodyIn, listIn, hasTrailer, hasList, cleanRows, ReadsCleanly}
-use Rattle.sheet.specs.Inner.{Placed}
 use Rattle.sheet.specs.Read.{readSheetRows, readSheetAnswer}
-use Rattle.sheet.proofs.Lent.{right-facts, there}
 
--- every row that judges the bytes passed
-pub record Clean (bytes : List ℕ) : Type 0 where
-  pub present : hasTrailer bytes ≡ true
-  pub right : trailerRight (length bytes - 32) (trailerOf bytes) ≡ true
-  pub sound : checked (sheetIn bytes) ≡ true
-  pub listed : hasList bytes ≡ true
+module _ (bytes : List ℕ) (asked : Label) (room : ℕ) where
+  -- the bytes decide, or else the label, or else the room
+  pub bytes-refuse : {why : Refusal} → verdict (cleanRows cutsForm bytes) ≡ Wrong why → verdict (readSheetRows bytes asked room) ≡ Wrong why
+  unfolding readSheetRows
+  bytes-refuse e = joined (cleanRows cutsForm bytes) _ ∙ rw e
 
-pub cleanly : {bytes : List ℕ} → Clean bytes → ReadsCleanly bytes
-unfolding cleanRows
-cleanly c = sym (judged-fine (past (ap not (c .present)) (past (ap not (c .right)) (past (ap not (c .sound)) (past (ap not (c .listed)) top)))))
-
-module _ (bytes : List ℕ) where
-  pub clean : ReadsCleanly bytes → Clean bytes
-  unfolding cleanRows
-  clean e =
-      let p = clear NoSheet _ _ e in
-      let r = clear TrailerWrong _ _ (p .1) in
-      let s = clear CheckWordWrong _ _ (r .1) in
-      let l = clear ListNotWellFormed _ _ (s .1) in
-      record { present = not-false _ (p .0); right = not-false _ (r .0); sound = not-false _ (s .0); listed = not-false _ (l .0) }
-
-  -- the trailer that was read: where it is right it tells where its sheet stands, and its settings judge the list there
-  module _ {t : Trailer} (e : t ≡ trailerOf bytes) where
-    pub placed : hasTrailer bytes ≡ true → trailerRight (length bytes - 32) (trailerOf bytes) ≡ true → Placed (t .distance) bytes
-    placed present right =
-        let same : t .distance ≡ trailerOf bytes .distance = ap (λ (x : Trailer). x .distance) e in
-        record { told = same; fits = omega (arith, there bytes present .0, right-facts right .body) }
-
-    pub listed-by : {r : Bool} {body : List ℕ} → body ≡ bodyIn bytes → r ≡ wellFormed (t .settings .minimum) (t .settings .maximum) (numbersOf 8 body) → r ≡ hasList bytes
-    unfolding hasList listIn
-    listed-by b w = w ∙ rw (b, e)
-
-  module _ (asked : Label) (room : ℕ) where
-    -- the bytes decide, or else the label, or else the room
-    pub bytes-refuse : {why : Refusal} → verdict (cleanRows bytes) ≡ Wrong why → verdict (readSheetRows bytes asked room) ≡ Wrong why
+  module _ (c : ReadsCleanly cutsForm bytes) where
+    pub label-refuses : (trailerOf bytes .label ≡ byteOf asked → ⊥) → verdict (readSheetRows bytes asked room) ≡ Wrong OtherLabel
     unfolding readSheetRows
-    bytes-refuse e = joined (cleanRows bytes) _ ∙ rw e
+    label-refuses other = sym (judged-wrong (skips _ c top) (ap not (ne-eqb _ _ other)))
 
-    module _ (c : ReadsCleanly bytes) where
-      pub label-refuses : (trailerOf bytes .label ≡ byteOf asked → ⊥) → verdict (readSheetRows bytes asked room) ≡ Wrong OtherLabel
+    module _ (own : trailerOf bytes .label ≡ byteOf asked) where
+      pub room-refuses : room < trailerOf bytes .count → verdict (readSheetRows bytes asked room) ≡ Wrong RoomTooShort
       unfolding readSheetRows
-      label-refuses other = sym (judged-wrong (skips _ c top) (ap not (ne-eqb _ _ other)))
+      room-refuses short = sym (judged-wrong (skips _ c (past (ap not (eq-eqb _ _ own)) top)) (lt-ltb _ _ short))
 
-      module _ (own : trailerOf bytes .label ≡ byteOf asked) where
-        pub room-refuses : room < trailerOf bytes .count → verdict (readSheetRows bytes asked room) ≡ Wrong RoomTooShort
-        unfolding readSheetRows
-        room-refuses short = sym (judged-wrong (skips _ c (past (ap not (eq-eqb _ _ own)) top)) (lt-ltb _ _ short))
-
-        pub none-refuses : trailerOf bytes .count ≤ room → verdict (readSheetRows bytes asked room) ≡ Fine
-        unfolding readSheetRows
-        none-refuses fits = sym (judged-fine (skips _ c (past (ap not (eq-eqb _ _ own)) (past (le-ltb _ _ fits) top))))
+      pub none-refuses : trailerOf bytes .count ≤ room → verdict (readSheetRows bytes asked room) ≡ Fine
+      unfolding readSheetRows
+      none-refuses fits = sym (judged-fine (skips _ c (past (ap not (eq-eqb _ _ own)) (past (le-ltb _ _ fits) top))))
 
 -- what the reader says of the bytes that it reads
 pub record WasRead (bytes : List ℕ) (asked : Label) (room label : ℕ) (settings : Settings) (count : ℕ) : Type 0 where
-  pub reads : ReadsCleanly bytes
+  pub reads : ReadsCleanly cutsForm bytes
   pub labelled : trailerOf bytes .label ≡ byteOf asked
   pub roomy : trailerOf bytes .count ≤ room
   pub the-label : label ≡ trailerOf bytes .label
@@ -91,7 +52,7 @@ module _ (bytes : List ℕ) (asked : Label) (room : ℕ) where
   unfolding readSheetAnswer readSheetRows
   was-read {label} {count} {settings} e =
       let f = succeeded (verdict (readSheetRows bytes asked room)) Refused _ e never in
-      let b = both-clear (cleanRows bytes) _ (f .0) in
+      let b = both-clear (cleanRows cutsForm bytes) _ (f .0) in
       let l = clear OtherLabel _ _ (b .1) in
       let r = clear RoomTooShort _ _ (l .1) in
       record {
@@ -115,9 +76,9 @@ module _ (bytes : List ℕ) (asked : Label) (room : ℕ) where
       same-count : {l c : ℕ} {s : Settings} → Read l s c ≡ Read label settings count → count ≡ c
       same-count p = cc
 
-  pub not-read : (ReadsCleanly bytes → ⊥) → (why : Refusal) × (readSheetAnswer bytes asked room ≡ Refused why)
+  pub not-read : (ReadsCleanly cutsForm bytes → ⊥) → (why : Refusal) × (readSheetAnswer bytes asked room ≡ Refused why)
   unfolding readSheetAnswer readSheetRows
   not-read never =
       by-verdict (verdict (readSheetRows bytes asked room))
-      (λ v. absurd (never (both-clear (cleanRows bytes) _ v .0)))
+      (λ v. absurd (never (both-clear (cleanRows cutsForm bytes) _ v .0)))
       (λ why v. (why, rw v))

@@ -11,12 +11,13 @@ use Rattle.terms.specs.Labels.{byteOf}
 use Rattle.terms.specs.Rows.{Row, row, verdict, ruled}
 use Rattle.sheet.specs.declared.Sheet.{Sheet}
 use Rattle.sheet.specs.declared.Sheet.the-variants.{Read, Refused}
-use Rattle.sheet.specs.Clean.{trailerOf, listIn, cleanRows}
+use Rattle.sheet_format.specs.Forms.{cutsForm}
+use Rattle.sheet_format.specs.Clean.{trailerOf, listIn, cleanRows}
 
 -- 12, 14, 13, 10, 15, 5: the bytes, then the label, then room for the count
 unfoldable pub readSheetRows : (bytes : List ℕ) (asked : Label) (room : ℕ) → List Row
 readSheetRows bytes asked room =
-    cleanRows bytes
+    cleanRows cutsForm bytes
     ++ (row OtherLabel (not (eqb (trailerOf bytes .label) (byteOf asked)))
     ∷ row RoomTooShort (ltb room (trailerOf bytes .count))
     ∷ [])

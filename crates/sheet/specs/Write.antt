@@ -13,8 +13,9 @@ use Rattle.terms.specs.declared.Refusal.the-variants.{SettingsOutOfRange, ListN
 use Rattle.terms.specs.Settings.{inRange}
 use Rattle.terms.specs.Rows.{Row, row, verdict, ruled}
 use Rattle.lists.specs.WellFormed.{wellFormed}
-use Rattle.sheet.specs.Trailer.{mostCuts}
-use Rattle.sheet.specs.Sheets.{sheetOf}
+use Rattle.sheet_format.specs.Forms.{cutsForm}
+use Rattle.sheet_format.specs.Trailer.{mostCuts}
+use Rattle.sheet_format.specs.Sheets.{sheetOf}
 
 -- 8 bytes a cut, and the trailer
 abbrev pub sheetSize : (count : ℕ) → ℕ
@@ -34,4 +35,4 @@ writeSheetAnswer settings list room = ruled (verdict (writeSheetRows settings li
 
 unfoldable pub writeSheetLeaves : (settings : Settings) (label : Label) (list bytes : List ℕ) → List ℕ
 writeSheetLeaves settings label list bytes =
-    ruled (verdict (writeSheetRows settings list (length bytes))) (λ _. bytes) (over (sheetOf settings label list) bytes)
+    ruled (verdict (writeSheetRows settings list (length bytes))) (λ _. bytes) (over (sheetOf cutsForm settings label list) bytes)

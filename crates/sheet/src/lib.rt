@@ -1,27 +1,16 @@
 // The cut sheet: a list of cuts with its settings and label, written to bytes and read back.
-mod body;
-mod check;
-mod judging;
-mod trailer;
-
-use body::body_in;
-use body::take_offsets;
-use check::check_word;
-use judging::judge;
+use sheet_format::body::body_in;
+use sheet_format::body::take_offsets;
+use sheet_format::judging::judge;
+use sheet_format::sealing::put_sheet;
+use sheet_format::trailer::trailer_of;
 use terms::Answer;
 use terms::Label;
 use terms::Refusal;
 use terms::Settings;
 use terms::Verdict;
-use trailer::put_fields;
-use trailer::trailer_of;
-use words::numbers::put_number;
-use words::numbers::put_numbers;
 ghost use mathlib.Core.Path.{_≡_};
-ghost use Prim.Native.Nat.{_+_, _*_, _≤_, _<_};
 ghost use lib.ListN.{length};
-ghost use Rattle.laws.specs.Over.{over};
-ghost use Rattle.sheet.specs.Sheets.{sheetOf};
 ghost use Rattle.terms.specs.Rows.{verdict};
 ghost use Rattle.sheet.specs.Write.{writeSheetRows, writeSheetAnswer, writeSheetLeaves};
 ghost use Rattle.sheet.specs.Read.{readSheetAnswer, readSheetLeaves};
@@ -34,19 +23,6 @@ pub enum Sheet {
         count: u64,
     },
     Refused(Refusal),
-}
-
-// Writes a sheet. It is inner: the caller sees that K is a byte and that there is room.
-fn put_sheet(settings: Settings, label: Label, list: &[u64], bytes: &mut [u8])
-    requires { ⌜ (settings .bits < 256) × (8 * length (now list) + 32 ≤ length (now bytes)) ⌝ }
-    ensures { λ _. ⌜ now (bytes .exit) ≡ over (sheetOf settings label (now (list .entry))) (now (bytes .entry)) ⌝ }
-{
-    put_numbers(8, list, 0, bytes);
-    let count = list.len();
-    put_fields(settings, label, count, bytes);
-    let end = 8 * count + 28;
-    let check = check_word(&bytes[..end]);
-    put_number(4, check as u64, end, bytes);
 }
 
 // The rows of writing in their order: 1, 10, 16 and 5.

@@ -9,13 +9,15 @@ use Rattle.words.specs.Numbers.{numbersOf}
 use borrow.Author.Needs.{needs}
 use Rattle.terms.specs.Labels.{byteOf}
 use Rattle.sheet.specs.declared.Sheet.the-variants.{Read, Refused}
-use Rattle.sheet.specs.declared.trailer.Trailer.{Trailer}
-use Rattle.sheet.specs.Clean.{trailerOf, listIn, ReadsCleanly}
-use Rattle.sheet.specs.Inner.{Placed}
+use Rattle.sheet_format.specs.declared.trailer.Trailer.{Trailer}
+use Rattle.sheet_format.specs.Forms.{cutsForm}
+use Rattle.sheet_format.specs.Clean.{trailerOf, listIn, ReadsCleanly}
+use Rattle.sheet_format.specs.Inner.{Placed}
 use Rattle.sheet.specs.Read.{readSheetAnswer, readSheetLeaves}
 use Rattle.sheet.proofs.Keeping.{kept, done}
-use Rattle.sheet.proofs.Lent.{there, right-facts, length-body}
-use Rattle.sheet.proofs.Reading.{Clean, clean, placed, bytes-refuse, label-refuses, room-refuses, none-refuses}
+use Rattle.sheet_format.proofs.Lent.{there, right-facts, length-body}
+use Rattle.sheet_format.proofs.Cleanly.{Clean, clean, placed}
+use Rattle.sheet.proofs.Reading.{bytes-refuse, label-refuses, room-refuses, none-refuses}
 use Rattle.sheet.proofs.read_sheet.Statement.{statement}
 use Rattle.sheet.proofs.read_sheet.Tie as tie
 
@@ -23,11 +25,11 @@ use Rattle.sheet.proofs.read_sheet.Tie as tie
 abbrev entry : tie.After-enum-told → tie.Start
 entry c = c .before .before .before .before .before
 
-cleanly : (c : tie.After-enum-told) → ReadsCleanly (entry c .args .bytes .now)
+cleanly : (c : tie.After-enum-told) → ReadsCleanly cutsForm (entry c .args .bytes .now)
 cleanly c = sym (c .before .before .judge .ensures) ∙ c .enum-told .given .1
 
-judged : (c : tie.After-enum-told) → Clean (entry c .args .bytes .now)
-judged c = clean _ (cleanly c)
+judged : (c : tie.After-enum-told) → Clean cutsForm (entry c .args .bytes .now)
+judged c = clean cutsForm _ (cleanly c)
 
 -- the label that was asked for
 abbrev reading : tie.Else1 → tie.After-enum-told
@@ -42,14 +44,14 @@ counted c = ap (λ (t : Trailer). t .count) (c .before .before .trailer-of .ensu
 stands : (c : tie.Else2) → Placed (c .before .before .before .trailer-of .result .distance) (entry (reading (c .before)) .args .bytes .now)
 stands c =
     let j = judged (reading (c .before)) in
-    placed _ (c .before .before .before .trailer-of .ensures) (j .present) (j .right)
+    placed _ (c .before .before .before .trailer-of .ensures) _ (j .present) (j .right)
 
 returns : tie.Need-returns
 unfolding readSheetAnswer readSheetLeaves
 returns c = kept Refused _ _ _ (bytes-refuse _ _ _ (sym (c .before .before .before .judge .ensures) ∙ c .before .why .given .1))
 
 trailer-of-requires : tie.Need-trailer-of-requires
-trailer-of-requires c κs = there _ (judged c .present) .0
+trailer-of-requires c κs = there _ _ (judged c .present) .0
 
 returns-2 : tie.Need-returns-2
 unfolding readSheetAnswer readSheetLeaves
