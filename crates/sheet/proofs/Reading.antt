@@ -38,47 +38,32 @@ module _ (bytes : List ℕ) (asked : Label) (room : ℕ) where
       unfolding readSheetRows
       none-refuses fits = sym (judged-fine (skips _ c (past (ap not (eq-eqb _ _ own)) (past (le-ltb _ _ fits) top))))
 
--- what the reader says of the bytes that it reads
-pub record WasRead (bytes : List ℕ) (asked : Label) (room label : ℕ) (settings : Settings) (count : ℕ) : Type 0 where
+-- no row of reading holds
+pub record Passed (bytes : List ℕ) (asked : Label) (room : ℕ) : Type 0 where
   pub reads : ReadsCleanly cutsForm bytes
   pub labelled : trailerOf bytes .label ≡ byteOf asked
   pub roomy : trailerOf bytes .count ≤ room
-  pub the-label : label ≡ trailerOf bytes .label
-  pub the-settings : settings ≡ trailerOf bytes .settings
-  pub the-count : count ≡ trailerOf bytes .count
 
 module _ (bytes : List ℕ) (asked : Label) (room : ℕ) where
-  pub was-read : {label count : ℕ} {settings : Settings} → readSheetAnswer bytes asked room ≡ Read label settings count → WasRead bytes asked room label settings count
-  unfolding readSheetAnswer readSheetRows
-  was-read {label} {count} {settings} e =
-      let f = succeeded (verdict (readSheetRows bytes asked room)) Refused _ e never in
-      let b = both-clear (cleanRows cutsForm bytes) _ (f .0) in
+  pub passed : verdict (readSheetRows bytes asked room) ≡ Fine → Passed bytes asked room
+  unfolding readSheetRows
+  passed e =
+      let b = both-clear (cleanRows cutsForm bytes) _ e in
       let l = clear OtherLabel _ _ (b .1) in
       let r = clear RoomTooShort _ _ (l .1) in
-      record {
-        reads = b .0;
-        labelled = eqb-true _ _ (not-false _ (l .0));
-        roomy = ltb-false _ _ (r .0);
-        the-label = same-label (f .1);
-        the-settings = same-settings (f .1);
-        the-count = same-count (f .1);
-      }
+      record { reads = b .0; labelled = eqb-true _ _ (not-false _ (l .0)); roomy = ltb-false _ _ (r .0) }
+
+  -- what an answer that is no refusal says
+  pub was-read : {label count : ℕ} {settings : Settings} → readSheetAnswer bytes asked room ≡ Read label settings count
+      → Passed bytes asked room × (Read (trailerOf bytes .label) (trailerOf bytes .settings) (trailerOf bytes .count) ≡ Read label settings count)
+  unfolding readSheetAnswer
+  was-read {label} {count} {settings} e =
+      let f = succeeded (verdict (readSheetRows bytes asked room)) Refused _ e never in
+      (passed (f .0), f .1)
     where
       never : (why : Refusal) → Refused why ≡ Read label settings count → ⊥
       never why p = let z : _≡_ {A = ℕ} 0 1 = cc in omega arith
 
-      same-label : {l c : ℕ} {s : Settings} → Read l s c ≡ Read label settings count → label ≡ l
-      same-label p = cc
-
-      same-settings : {l c : ℕ} {s : Settings} → Read l s c ≡ Read label settings count → settings ≡ s
-      same-settings p = cc
-
-      same-count : {l c : ℕ} {s : Settings} → Read l s c ≡ Read label settings count → count ≡ c
-      same-count p = cc
-
   pub not-read : (ReadsCleanly cutsForm bytes → ⊥) → (why : Refusal) × (readSheetAnswer bytes asked room ≡ Refused why)
-  unfolding readSheetAnswer readSheetRows
-  not-read never =
-      by-verdict (verdict (readSheetRows bytes asked room))
-      (λ v. absurd (never (both-clear (cleanRows cutsForm bytes) _ v .0)))
-      (λ why v. (why, rw v))
+  unfolding readSheetAnswer
+  not-read never = by-verdict (verdict (readSheetRows bytes asked room)) (λ v. absurd (never (passed v .reads))) (λ why v. (why, rw v))

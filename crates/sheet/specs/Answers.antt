@@ -6,6 +6,9 @@ use Rattle.terms.specs.Refusals.{numberOf}
 use Rattle.sheet.specs.declared.Sheet.{Sheet}
 use Rattle.sheet.specs.declared.Sheet.the-variants.{Read, Refused}
 
+abbrev pub noSettings : Settings
+noSettings = record { bits = 0; target = 0; minimum = 0; maximum = 0 }
+
 unfoldable pub sheetNumber : Sheet → ℕ
 sheetNumber (Read label settings count) = 0
 sheetNumber (Refused why) = numberOf why
@@ -16,7 +19,7 @@ sheetLabel (Refused why) = 0
 
 unfoldable pub sheetSettings : Sheet → Settings
 sheetSettings (Read label settings count) = settings
-sheetSettings (Refused why) = record { bits = 0; target = 0; minimum = 0; maximum = 0 }
+sheetSettings (Refused why) = noSettings
 
 unfoldable pub sheetCount : Sheet → ℕ
 sheetCount (Read label settings count) = count

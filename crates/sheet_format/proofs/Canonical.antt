@@ -1,22 +1,21 @@
 -- A sheet is canonical in its form: what reads cleanly is, byte for byte, what is written for that label, those settings and that list.
-use mathlib.Core.Path.{_≡_, refl, sym, ap, ap₂, _∙_}
+use mathlib.Core.Path.{_≡_, sym, ap, ap₂, _∙_}
 use mathlib.Core.Bool.{true}
-use mathlib.Core.List.{List, [], _∷_, _++_, append-nil, append-assoc}
+use mathlib.Core.List.{List, [], _∷_, _++_, append-nil}
 use Prim.Native.Nat.{ℕ, _+_, _-_, _*_, _≤_, _<_}
 use native.Mathlib.Omega.{arith}
-use lib.Dec.{eqb, lit<}
+use lib.Dec.{lit<}
 use lib.ListN.{length, take, drop, getD, length-drop, take-append-drop}
 use lib.Seq.{drop-cons, drop-drop, take-add, take-all, length-take-le}
-use borrow.Author.Tests.{eqb-true}
 use Rattle.laws.specs.Bytes.{Bytes}
 use Rattle.laws.proofs.Bytes.{bytes-drop}
-use Rattle.laws.proofs.Cases.{both-true}
 use Rattle.terms.specs.declared.Label.{Label}
 use Rattle.terms.specs.Labels.{byteOf}
 use Rattle.words.specs.Numbers.{bigEndian, written, numbersOf, numberAt}
 use Rattle.words.specs.Runs.{same}
 use Rattle.words.proofs.BigEndian.{bytes-part}
-use Rattle.words.proofs.Back.{bigEndian-numberAt, written-numbersOf, length-numbersOf}
+use Rattle.words.proofs.Same.{same-true}
+use Rattle.words.proofs.Back.{bigEndian-numberAt, written-numbersOf}
 use Rattle.sheet_format.specs.declared.trailer.Trailer.{Trailer}
 use Rattle.sheet_format.specs.Forms.{Form}
 use Rattle.sheet_format.specs.Trailer.{fields, trailerFor, trailerIn}
@@ -24,16 +23,7 @@ use Rattle.sheet_format.specs.Sheets.{checked, withCheck, sealed, sheetO
 use Rattle.sheet_format.specs.Clean.{trailerBytes, trailerOf, sheetIn, bodyIn, listIn, hasTrailer}
 use Rattle.sheet_format.proofs.CheckWord.{checked-word}
 use Rattle.sheet_format.proofs.Lent.{right-facts, there}
-use Rattle.sheet_format.proofs.Cleanly.{Clean}
-
-same-true : (a b : List ℕ) → same a b ≡ true → a ≡ b
-unfolding same
-same-true [] [] e = refl
-same-true [] (y ∷ b) e = let z : _≡_ {A = ℕ} 0 1 = cc in absurd (omega arith)
-same-true (x ∷ a) [] e = let z : _≡_ {A = ℕ} 0 1 = cc in absurd (omega arith)
-same-true (x ∷ a) (y ∷ b) e =
-    let halves = both-true {a = eqb x y} e in
-    ap₂ (λ (h : ℕ) (r : List ℕ). h ∷ r) (eqb-true x y (halves .0)) (same-true a b (halves .1))
+use Rattle.sheet_format.proofs.Cleanly.{Clean, length-list}
 
 -- the first bytes from a place on, and those after them
 cut : (place width rest : ℕ) (l : List ℕ) → take (width + rest) (drop place l) ≡ take width (drop place l) ++ take rest (drop (place + width) l)
@@ -99,8 +89,7 @@ module _ (form : Form) where
         let place : length bytes - 32 - t .distance + 8 * t .count ≡ length bytes - 32 = omega (arith, r .distance, r .body) in
         let last : drop (8 * t .count) sheet ≡ trailerBytes bytes = rw (drop-drop, place) in
         let body : listIn bytes ≡ numbersOf 8 (take (8 * t .count) sheet) = ap (λ (k : ℕ). numbersOf 8 (take k sheet)) (r .distance) in
-        let counted : length (listIn bytes) ≡ t .count =
-        rw body (length-numbersOf 8 (lit< tt) (t .count) (take (8 * t .count) sheet) (length-take-le (8 * t .count) sheet (omega (arith, long)))) in
+        let counted : length (listIn bytes) ≡ t .count = length-list form bytes a in
         let trailer : trailerIn (drop (8 * t .count) sheet) ≡ trailerFor (t .settings) asked (length (listIn bytes)) =
         ap trailerIn last ∙ trailer-made ∙ ap (trailerFor (t .settings) asked) (sym counted) in
         sheet-back sheet (t .count) (bytes-drop (length bytes - 32 - t .distance) bytes h) long (rw last (marked .1)) (a .sound)

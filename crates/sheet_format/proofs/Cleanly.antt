@@ -1,22 +1,24 @@
 -- Bytes that read cleanly: every row that judges them passed, and what that says of them.
-use mathlib.Core.Path.{_≡_, sym, ap, _∙_}
+use mathlib.Core.Path.{_≡_, refl, sym, ap, _∙_}
 use mathlib.Core.Bool.{Bool, true, not}
 use mathlib.Core.List.{List}
 use Prim.Native.Nat.{ℕ, _-_}
 use native.Mathlib.Omega.{arith}
+use lib.Dec.{lit<}
 use lib.ListN.{length}
 use borrow.Author.Tests.{not-false}
 use Rattle.terms.specs.declared.Refusal.the-variants.{NoSheet, TrailerWrong, CheckWordWrong, ListNotWellFormed}
 use Rattle.terms.proofs.Verdicts.{clear, top, past, judged-fine}
 use Rattle.lists.specs.WellFormed.{wellFormed}
 use Rattle.words.specs.Numbers.{numbersOf}
+use Rattle.words.proofs.Back.{length-numbersOf}
 use Rattle.sheet_format.specs.declared.trailer.Trailer.{Trailer}
 use Rattle.sheet_format.specs.Forms.{Form}
 use Rattle.sheet_format.specs.Trailer.{trailerRight}
 use Rattle.sheet_format.specs.Sheets.{checked}
 use Rattle.sheet_format.specs.Clean.{trailerOf, sheetIn, bodyIn, listIn, hasTrailer, hasList, cleanRows, ReadsCleanly}
 use Rattle.sheet_format.specs.Inner.{Placed}
-use Rattle.sheet_format.proofs.Lent.{right-facts, there}
+use Rattle.sheet_format.proofs.Lent.{right-facts, there, length-body}
 
 pub record Clean (form : Form) (bytes : List ℕ) : Type 0 where
   pub present : hasTrailer (form .mark) bytes ≡ true
@@ -47,3 +49,10 @@ module _ (bytes : List ℕ) {t : Trailer} (e : t ≡ trailerOf bytes) where
   pub listed-by : {r : Bool} {body : List ℕ} → body ≡ bodyIn bytes → r ≡ wellFormed (t .settings .minimum) (t .settings .maximum) (numbersOf 8 body) → r ≡ hasList bytes
   unfolding hasList listIn
   listed-by b w = w ∙ rw (b, e)
+
+-- a clean sheet's list has as many entries as its trailer counts
+pub length-list : (form : Form) (bytes : List ℕ) → Clean form bytes → length (listIn bytes) ≡ trailerOf bytes .count
+unfolding listIn
+length-list form bytes c =
+    let p = placed bytes refl (form .mark) (c .present) (c .right) in
+    length-numbersOf 8 (lit< tt) (trailerOf bytes .count) (bodyIn bytes) (length-body bytes p ∙ right-facts (c .right) .distance)

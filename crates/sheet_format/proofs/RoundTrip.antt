@@ -20,7 +20,7 @@ use Rattle.terms.proofs.Ranges.{ranges}
 use Rattle.lists.specs.WellFormed.{wellFormed}
 use Rattle.lists.proofs.Reaching.{reaches, entries-low}
 use Rattle.words.specs.Numbers.{bigEndian, number, written, numbersOf, numberAt}
-use Rattle.words.specs.Runs.{same}
+use Rattle.words.proofs.Same.{same-self}
 use Rattle.words.proofs.BigEndian.{length-bigEndian, length-written, number-bigEndian}
 use Rattle.words.proofs.Back.{Wide, numbersOf-written, bytes-test, bytes-append, bytes-bigEndian, bytes-written}
 use Rattle.sheet_format.specs.declared.trailer.Trailer.{Trailer}
@@ -79,11 +79,6 @@ label-known : (label : Label) → isLabel (byteOf label) ≡ true
 unfolding isLabel
 label-known Practice = refl
 label-known Live = refl
-
-same-self : (l : List ℕ) → same l l ≡ true
-unfolding same
-same-self [] = refl
-same-self (x ∷ l) = rw (eq-eqb x x refl) (same-self l)
 
 present-for : (mark bytes rest : List ℕ) (t : Trailer) → length mark ≡ 4 → 32 ≤ length bytes → trailerBytes bytes ≡ fields mark t ++ rest → hasTrailer mark bytes ≡ true
 unfolding hasTrailer fields

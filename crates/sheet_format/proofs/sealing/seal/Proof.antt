@@ -1,5 +1,5 @@
 -- `sheet_format::sealing::seal` meets its contract: the fields and the check word are written after the body.
-use mathlib.Core.Path.{refl, sym}
+use mathlib.Core.Path.{sym}
 use native.Mathlib.Omega.{arith}
 use borrow.Author.Needs.{needs}
 use lib.Seq.{length-take-le}
