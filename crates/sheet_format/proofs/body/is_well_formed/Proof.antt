@@ -21,11 +21,23 @@ loop-holds : tie.Need-loop-holds Inv-loop μ-loop
 unfolding wellFormed
 loop-holds c = (search needs, refl)
 
+-- the turn in which a step was judged
+abbrev turn : tie.After-step-fits Inv-loop μ-loop → tie.In-loop Inv-loop μ-loop
+turn c = c .before .before
+
 returns : tie.Need-returns Inv-loop μ-loop
-returns c = sym (c .before .before .before .before .loop .inv .1 ∙ offset-refused _ _ _ _ _ (c .before .before .before .loop-test .taken) (c .before .before .number-at .ensures .0) (c .before .step-fits .ensures) (not-true _ (c .if1 .taken)))
+returns c =
+    let judged = c .before in
+    sym (turn judged .before .loop .inv .1
+    ∙ offset-refused _ _ _ _ _ (turn judged .loop-test .taken) (judged .before .number-at .ensures .0) (judged .step-fits .ensures) (not-true _ (c .if1 .taken)))
 
 loop-again : tie.Need-loop-again Inv-loop μ-loop
-loop-again c = (search needs, c .before .before .before .before .loop .inv .1 ∙ offset-passed _ _ _ _ _ (c .before .before .before .loop-test .taken) (c .before .before .number-at .ensures .0) (c .before .step-fits .ensures) (not-false _ (c .if1 .left)))
+loop-again c =
+    let judged = c .before in (
+      search needs,
+      turn judged .before .loop .inv .1
+          ∙ offset-passed _ _ _ _ _ (turn judged .loop-test .taken) (judged .before .number-at .ensures .0) (judged .step-fits .ensures) (not-false _ (c .if1 .left)),
+    )
 
 returns-2 : tie.Need-returns-2 Inv-loop μ-loop
 returns-2 c = sym (c .before .loop .inv .1 ∙ offsets-end _ _ _ _ _ (c .loop-test .left))

@@ -2,7 +2,7 @@
 use Prim.Native.Nat.{ℕ}
 use mathlib.Core.Path.{sym, ap, _∙_}
 use Rattle.thrunglow.specs.declared.sheets.Reading.{Reading}
-use Rattle.sheet.specs.Answers.{sheetNumber, sheetLabel, sheetSettings, sheetCount}
+use Rattle.sheet.specs.Answers.{noSettings, sheetNumber, sheetLabel, sheetSettings, sheetCount}
 use Rattle.thrunglow.specs.Sheets.{readingOf}
 use borrow.Author.Needs.{needs}
 use Rattle.thrunglow.proofs.sheets.reading_of.Statement.{statement}
@@ -13,7 +13,7 @@ refusedBy number =
     record {
       number = number;
       label = 0;
-      settings = record { bits = 0; target = 0; minimum = 0; maximum = 0 };
+      settings = noSettings;
       count = 0;
     }
 
