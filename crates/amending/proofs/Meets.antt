@@ -3,27 +3,26 @@ use Prim.Native.Nat.{ℕ, _+_, _≤_}
 use mathlib.Core.Path.{_≡_}
 use mathlib.Core.Bool.{true, not}
 use mathlib.Core.List.{List, [], _∷_, _++_}
-use native.Mathlib.Omega.{arith}
 use lib.Dec.{leb}
 use borrow.Author.Tests.{leb-true, eqb-true}
-use Rattle.laws.proofs.Cases.{both-true}
+use Rattle.laws.proofs.Cases.{both-true, impossible}
 use Rattle.lists.specs.WellFormed.{isEmpty}
 use Rattle.amending.specs.declared.edits.Edit.{Edit}
-use Rattle.amending.specs.Parts.{before, since, wasAt, meets}
-use Rattle.amending.proofs.Split.{Split, split, joined, heads, since-is}
+use Rattle.amending.specs.Parts.{until, from, wasAt, meets}
+use Rattle.amending.proofs.Split.{Split, split, joined, heads, from-is}
 
 -- the old cut x, with rest after it, stood where t is, which lies at or past the change's end
 pub record Placed (edit : Edit) (past : List ℕ) (t x : ℕ) (rest : List ℕ) : Type 0 where
   pub far : edit .at + edit .added ≤ t
   pub place : x + edit .added ≡ t + edit .removed
-  pub whole : before (wasAt edit t) past ++ (x ∷ rest) ≡ past
-  pub onward : since (wasAt edit t) past ≡ x ∷ rest
+  pub whole : until (wasAt edit t) past ++ (x ∷ rest) ≡ past
+  pub onward : from (wasAt edit t) past ≡ x ∷ rest
 
 pub placed : (edit : Edit) (past : List ℕ) (t : ℕ) → meets edit past t ≡ true → (x : ℕ) × (rest : List ℕ) × Placed edit past t x rest
-placed edit past t h = found (since (wasAt edit t) past) (split (wasAt edit t) past) (unfold meets in both-true h)
+placed edit past t h = found (from (wasAt edit t) past) (split (wasAt edit t) past) (unfold meets in both-true h)
   where
-    found : (k : List ℕ) → Split (wasAt edit t) past (before (wasAt edit t) past) k → (leb (edit .at + edit .added) t ≡ true) × (not (isEmpty k) ≡ true)
+    found : (k : List ℕ) → Split (wasAt edit t) past (until (wasAt edit t) past) k → (leb (edit .at + edit .added) t ≡ true) × (not (isEmpty k) ≡ true)
         → (x : ℕ) × (rest : List ℕ) × Placed edit past t x rest
-    found [] parts both = absurd (let z : _≡_ {A = ℕ} 0 1 = unfold isEmpty in cc in omega arith)
+    found [] parts both = impossible (unfold isEmpty in cc)
     found (x ∷ k) parts both =
-        (x, k, record { far = leb-true _ _ (both .0); place = unfold wasAt in eqb-true _ _ (heads parts); whole = joined parts; onward = since-is (wasAt edit t) parts })
+        (x, k, record { far = leb-true _ _ (both .0); place = unfold wasAt in eqb-true _ _ (heads parts); whole = joined parts; onward = from-is (wasAt edit t) parts })

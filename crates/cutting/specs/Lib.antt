@@ -1,3 +1,3 @@
 pub mod Marks
 pub mod Search
-pub mod WholeLog
+pub mod Calls

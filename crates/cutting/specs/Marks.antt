@@ -9,7 +9,7 @@ use Rattle.rule.specs.Rule.{next, cuts}
 use Rattle.signature.specs.Signatures.{signatureOf, window}
 
 -- the low bits of a signature equal the target
-unfoldable pub matches : Settings → ℕ → Bool
+unfoldable pub matches : (settings : Settings) (signature : ℕ) → Bool
 matches s signature = eqb (signature % 2 ^ s .bits) (s .target)
 
 -- offset p of a log is a mark when 48 <= p <= n and the signature of the 48 bytes before p matches

@@ -4,10 +4,11 @@ ghost use mathlib.Core.Bool.{true};
 ghost use Prim.Native.Nat.{suc, _-_, _≤_, _<_, min};
 ghost use lib.ListN.{length};
 ghost use Rattle.rule.specs.Rule.{firstMark};
-ghost use Rattle.signature.specs.Signatures.{signatureOf, window, leavingTable, pushedTable};
+ghost use Rattle.signature.specs.Signatures.{signatureOf, window, signatureTables};
 ghost use Rattle.terms.specs.Settings.{inRange};
 ghost use Rattle.cutting.specs.Marks.{mark, nextCut};
 ghost use Rattle.cutting.specs.Search.{Seek};
+use signature::Tables;
 use terms::Settings;
 
 // Where a search stops: at a mark that it found, or at its end; and the signature there.
@@ -24,12 +25,11 @@ pub fn seek(
     first: usize,
     last: usize,
     signature: u32,
-    leaving: &[u32; 256],
-    pushed: &[u32; 256],
+    tables: &Tables,
 ) -> Sought
-    requires { ⌜ inRange settings ≡ true ⌝ }
+    requires { ⌜ settings .bits ≤ 31 ⌝ }
     requires { ⌜ (48 ≤ first) × (first ≤ last) × (last ≤ length (now log)) × (signature ≡ signatureOf (window (now log) (first - 48))) ⌝ }
-    requires { ⌜ (now leaving ≡ leavingTable) × (now pushed ≡ pushedTable) ⌝ }
+    requires { ⌜ now tables ≡ signatureTables ⌝ }
     ensures { λ r. ⌜ Seek settings (now (log .entry)) first last r ⌝ }
 {
     let mask: u32 = (1 << settings.bits) - 1;
@@ -43,7 +43,7 @@ pub fn seek(
         if at == last {
             break last;
         }
-        here = signature::roll(here, log[at - 48], log[at], leaving, pushed);
+        here = signature::roll(here, log[at - 48], log[at], tables);
         at += 1;
     };
     Sought {
@@ -59,19 +59,18 @@ pub fn first_mark(
     log: &[u8],
     first: usize,
     last: usize,
-    leaving: &[u32; 256],
-    pushed: &[u32; 256],
+    tables: &Tables,
 ) -> usize
-    requires { ⌜ inRange settings ≡ true ⌝ }
+    requires { ⌜ settings .bits ≤ 31 ⌝ }
     requires { ⌜ (48 ≤ first) × (last ≤ length (now log)) ⌝ }
-    requires { ⌜ (now leaving ≡ leavingTable) × (now pushed ≡ pushedTable) ⌝ }
+    requires { ⌜ now tables ≡ signatureTables ⌝ }
     ensures { λ r. ⌜ r ≡ firstMark (mark settings (now (log .entry))) (suc last - first) first last ⌝ }
 {
     if last < first {
         return last;
     }
-    let here = signature::of_window(log, first - 48, pushed);
-    let spot = seek(settings, log, first, last, here, leaving, pushed);
+    let here = signature::of_window(log, first - 48, tables);
+    let spot = seek(settings, log, first, last, here, tables);
     spot.at
 }
 
@@ -82,19 +81,13 @@ pub fn smaller(a: usize, b: usize) -> usize
 }
 
 // The cut that follows a cut below the log's end. The bytes below cut + minimum - 48 are not rolled over.
-pub fn next_cut(
-    settings: Settings,
-    log: &[u8],
-    cut: usize,
-    leaving: &[u32; 256],
-    pushed: &[u32; 256],
-) -> usize
+pub fn next_cut(settings: Settings, log: &[u8], cut: usize, tables: &Tables) -> usize
     requires { ⌜ inRange settings ≡ true ⌝ }
     requires { ⌜ cut < length (now log) ⌝ }
-    requires { ⌜ (now leaving ≡ leavingTable) × (now pushed ≡ pushedTable) ⌝ }
+    requires { ⌜ now tables ≡ signatureTables ⌝ }
     ensures { λ r. ⌜ r ≡ nextCut settings (now (log .entry)) cut ⌝ }
 {
     let first = cut + settings.minimum as usize;
     let last = smaller(cut + settings.maximum as usize, log.len());
-    first_mark(settings, log, first, last, leaving, pushed)
+    first_mark(settings, log, first, last, tables)
 }

@@ -13,9 +13,13 @@ by-test false f g = g refl
 pub by-lt {ℓ} : {C : Type ℓ} (a b : ℕ) → (a < b → C) → (b ≤ a → C) → C
 by-lt a b f g = by-test (ltb a b) (λ e. f (ltb-true a b e)) (λ e. g (ltb-false a b e))
 
+-- what follows from two different constructors that are one: `cc` finds that 0 is 1
+pub impossible {ℓ} : {C : Type ℓ} → _≡_ {A = ℕ} 0 1 → C
+impossible e = absurd (omega arith)
+
 -- no test both passes and fails
 pub clash : true ≡ false → ⊥
-clash e = let z : _≡_ {A = ℕ} 0 1 = cc in omega arith
+clash e = impossible (cc)
 
 -- both halves of a test that passed
 pub both-true : {a b : Bool} → a && b ≡ true → (a ≡ true) × (b ≡ true)

@@ -1,2 +1,3 @@
 pub mod WellFormed
 pub mod Puts
+pub mod Written

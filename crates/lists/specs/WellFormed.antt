@@ -1,9 +1,10 @@
 -- Lists of cuts: document 01, "Amending".
-use Prim.Native.Nat.{ℕ, _-_, _^_}
+use Prim.Native.Nat.{ℕ, _-_}
 use mathlib.Core.Bool.{Bool, true, false, _&&_, _||_}
 use mathlib.Core.List.{List, [], _∷_}
 use lib.Dec.{leb, ltb}
 use Rattle.laws.specs.Last.{lastOr}
+use Rattle.terms.specs.Answers.{longest}
 
 -- a step that rises, is at most maximum, and is at least minimum unless it is the last
 unfoldable pub stepFits : (minimum maximum : ℕ) → (last : Bool) → (before entry : ℕ) → Bool
@@ -16,7 +17,7 @@ isEmpty (entry ∷ rest) = false
 
 -- every step from before on fits, and the list ends at 2^40 or below
 unfoldable pub stepsFit : (minimum maximum before : ℕ) → List ℕ → Bool
-stepsFit minimum maximum before [] = leb before (2 ^ 40)
+stepsFit minimum maximum before [] = leb before longest
 stepsFit minimum maximum before (entry ∷ rest) =
     stepFits minimum maximum (isEmpty rest) before entry && stepsFit minimum maximum entry rest
 

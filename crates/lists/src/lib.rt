@@ -37,7 +37,7 @@ pub fn well_formed(minimum: u64, maximum: u64, list: &[u64]) -> bool
         before = entry;
         i += 1;
     }
-    if before > 0x100_0000_0000 {
+    if before > terms::LONGEST {
         return false;
     }
     true

@@ -25,10 +25,6 @@ use Rattle.board_record.specs.Records.{segmentOf}
 use Rattle.board.specs.Recording.{recordFits, recorded, withBay, recordRows, bayAnswer, bayAfter, segmentRows, segmentAnswer, segmentBoard}
 use Rattle.board.specs.Merging.{mergeRows, mergeAnswer, mergeList}
 use Rattle.board_merged.proofs.Orders as orders
-use Rattle.amending.specs.declared.edits.Edit.{Edit}
-use Rattle.amending.specs.declared.Amendment.the-variants as amendment
-use Rattle.amending.specs.Parts.{amendedList, front}
-use Rattle.amending.specs.Answers.{amendmentNumber, frontOf, newCutsOf, counts, amendRows, amendAnswer, amendList}
 use Rattle.promises.specs.Leaves.{OthersStay}
 
 module _ (s : Settings) (log : List ℕ) where
@@ -43,20 +39,6 @@ module _ (s : Settings) (log : List ℕ) where
   pub whole-log-leaves : (list : List ℕ) → Leaves (answerNumber (cutLogAnswer s log (length list))) 17 list (writtenList (cutList s log) list) (cutLogList s log list)
   unfolding cutLogList
   whole-log-leaves list = rw (whole-log-rows (length list)) (refused-leaves (verdict (cutLogRows s log (length list))) ListFull)
-
-module _ (s : Settings) (old : List ℕ) (edit : Edit) (log : List ℕ) where
-  pub amend-rows : (room : ℕ) → amendmentNumber (amendAnswer s old edit log room) ≡ firstRow (amendRows s old edit log room)
-  unfolding amendmentNumber amendAnswer
-  amend-rows room = through amendmentNumber (verdict (amendRows s old edit log room)) amendment.Refused (counts (newCutsOf s log) old edit)
-
-  pub amend-front : (room : ℕ) → frontOf (amendAnswer s old edit log room) ≡ ruled (verdict (amendRows s old edit log room)) (λ _. 0) (length (front (edit .at) old))
-  unfolding frontOf amendAnswer
-  amend-front room = through frontOf (verdict (amendRows s old edit log room)) amendment.Refused (counts (newCutsOf s log) old edit)
-
-  pub amend-leaves : (list : List ℕ)
-      → Leaves (amendmentNumber (amendAnswer s old edit log (length list))) 17 list (writtenList (amendedList (newCutsOf s log) old edit) list) (amendList s old edit log list)
-  unfolding amendList
-  amend-leaves list = rw (amend-rows (length list)) (refused-leaves (verdict (amendRows s old edit log (length list))) ListFull)
 
 module _ (s : Settings) (n size width : ℕ) (board : List ℕ) where
   pub merge-rows : (room : ℕ) → answerNumber (mergeAnswer s n size width board room) ≡ firstRow (mergeRows s n size width board room)

@@ -10,14 +10,10 @@ use borrow.Author.Tests.{leb-true, ltb-false, eqb-true, le-leb, eq-eqb}
 use Rattle.laws.proofs.Cases.{both-true}
 use Rattle.terms.specs.declared.Settings.{Settings}
 use Rattle.terms.specs.declared.Answer.the-variants.{Wrote}
-use Rattle.terms.specs.Settings.{inRange}
-use Rattle.terms.specs.Answers.{longest}
 use Rattle.signature.specs.Polynomials.{rem}
 use Rattle.signature.specs.Signatures.{number, window, signature, signatureOf, degree, lowPart}
 use Rattle.signature.proofs.Remainders.{rem-exactly}
 use Rattle.cutting.specs.Marks.{mark, matches, cutList}
-use Rattle.pass.specs.SinglePass.{Lent, joined, Roomy, writtenBy}
-use Rattle.pass.proofs.SinglePass as pass
 use Rattle.promises.specs.OneList.{Marked, Lists}
 use Rattle.terms.specs.Rows.{verdict}
 use Rattle.terms.proofs.Verdicts.{clear}
@@ -56,8 +52,3 @@ unfolding cutLogAnswer cutLogList cutLogRows
 whole-log s log list k e =
     wrote-all (verdict (cutLogRows s log (length list))) (cutList s log) list e
     (λ v. ltb-false _ _ (clear _ _ _ (clear _ _ _ (clear _ _ _ (clear _ _ _ v .1) .1) .1) .0))
-
--- fresh, the blocks in turn and close write, joined, the cuts of the joined log, for any blocks
-pub single-pass : (s : Settings) (calls : List Lent) (last : List ℕ) → inRange s ≡ true → length (joined calls) ≤ longest
-    → Roomy (s .minimum) calls → 1 ≤ length last → writtenBy s calls last ≡ cutList s (joined calls)
-single-pass = pass.single-pass

@@ -1,9 +1,8 @@
 -- The two calls of the sheet: their numbers by their tables of rows, what a refusal leaves, and the values beside each answer.
-use Prim.Native.Nat.{ℕ, _+_, _*_, _<_}
+use Prim.Native.Nat.{ℕ, _+_, _*_}
 use mathlib.Core.Path.{_≡_, sym, _∙_}
 use mathlib.Core.List.{List}
 use native.Mathlib.Omega.{arith}
-use lib.Dec.{lit<}
 use lib.ListN.{length, take, drop}
 use lib.Seq.{drop-append-seam}
 use Rattle.laws.specs.Over.{over}
@@ -11,13 +10,11 @@ use Rattle.laws.proofs.Writing.{take-over}
 use Rattle.terms.specs.declared.Settings.{Settings}
 use Rattle.terms.specs.declared.Label.{Label}
 use Rattle.terms.specs.declared.Answer.the-variants as answer
-use Rattle.terms.specs.declared.Refusal.{Refusal}
-use Rattle.terms.specs.declared.Refusal.the-variants.{SettingsOutOfRange, LogTooLong, CarryNotInOrder, CarryClosed, RoomTooShort, RecordTooLong, NoSuchSegment, BayNotDone}
-use Rattle.terms.specs.declared.Refusal.the-variants.{BayMalformed, ListNotWellFormed, EditOutOfRange, NoSheet, CheckWordWrong, TrailerWrong, OtherLabel, TooManyCuts, ListFull}
 use Rattle.terms.specs.declared.Verdict.the-variants.{Fine}
 use Rattle.terms.specs.Refusals.{numberOf}
 use Rattle.terms.specs.Answers.{answerNumber, answerCount}
 use Rattle.terms.specs.Rows.{Row, verdict, firstRow}
+use Rattle.terms.proofs.Numbers.{numbered}
 use Rattle.terms.proofs.Verdicts.{by-verdict, through, refused-keeps}
 use Rattle.sheet_format.specs.Forms.{cutsForm}
 use Rattle.sheet_format.specs.Sheets.{sheetOf}
@@ -32,25 +29,6 @@ use Rattle.sheet.specs.Answers.{sheetNumber, sheetLabel, sheetSettings, sheetCo
 use Rattle.sheet.proofs.Writing.{writable}
 use Rattle.sheet.proofs.Reading.{passed}
 use Rattle.promises.specs.Sheets.{NothingRead, ReadOut, WrittenOut}
-
-numbered : (why : Refusal) → 0 < numberOf why
-numbered SettingsOutOfRange = lit< tt
-numbered LogTooLong = lit< tt
-numbered CarryNotInOrder = lit< tt
-numbered CarryClosed = lit< tt
-numbered RoomTooShort = lit< tt
-numbered RecordTooLong = lit< tt
-numbered NoSuchSegment = lit< tt
-numbered BayNotDone = lit< tt
-numbered BayMalformed = lit< tt
-numbered ListNotWellFormed = lit< tt
-numbered EditOutOfRange = lit< tt
-numbered NoSheet = lit< tt
-numbered CheckWordWrong = lit< tt
-numbered TrailerWrong = lit< tt
-numbered OtherLabel = lit< tt
-numbered TooManyCuts = lit< tt
-numbered ListFull = lit< tt
 
 -- the number 0 says that no row holds
 none-holds : (rows : List Row) → firstRow rows ≡ 0 → verdict rows ≡ Fine

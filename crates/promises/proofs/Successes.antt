@@ -35,12 +35,3 @@ unfolding writtenList
 wrote-all v cuts list e fits =
     let f = succeeds v (length cuts) e in
     record { counted = sym (f .1); written = rw (f .0) (ap (λ l. over l list) (take-all (length list) cuts (fits (f .0)))) }
-
--- a table's last number is answered only where its last row holds, and no row above it
-pub last-holds : (but : Refusal) (rows : List Row) (holds : Bool) → lacks but rows ≡ true → 0 < numberOf but
-    → firstRow (rows ++ (row but holds ∷ [])) ≡ numberOf but → (verdict rows ≡ Fine) × (holds ≡ true)
-unfolding verdict
-last-holds but rows holds l above e =
-    by-verdict (verdict rows)
-    (λ v. (v, by-test holds (λ t. t) (λ t. let none : 0 ≡ numberOf but = rw (joined rows (row but holds ∷ []), v, t) at e in absurd (omega arith))))
-    (λ why v. let same : numberOf why ≡ numberOf but = rw (joined rows (row but holds ∷ []), v) at e in absurd (clash (sym (eq-eqb _ _ same) ∙ lacking but rows l v)))

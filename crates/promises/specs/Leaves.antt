@@ -2,21 +2,7 @@
 use Prim.Native.Nat.{ℕ}
 use mathlib.Core.Path.{_≡_}
 use mathlib.Core.List.{List}
-use lib.ListN.{length, take}
-use Rattle.laws.specs.Over.{over}
-use Rattle.terms.specs.Answers.{answerNumber}
 use Rattle.board_bays.specs.Bays.{bayOf}
-use Rattle.pass_carry.specs.declared.Carry.{Carry}
-use Rattle.pass_carry.specs.declared.Outcome.{Outcome}
-
--- lent memory before and after a call that answered a number, and the cuts that it would write
-pub record Leaves (number : ℕ) (before after cuts : List ℕ) : Type 0 where
-  pub untouched : (number ≡ 0 → ⊥) → (number ≡ 17 → ⊥) → after ≡ before
-  pub guarded : number ≡ 17 → after ≡ over (take (length before) cuts) before
-
--- a call of the single pass that is refused hands back its carry unaltered
-pub record HandsBack (c : Carry) (outcome : Outcome) : Type 0 where
-  pub unaltered : (answerNumber (outcome .answer) ≡ 0 → ⊥) → outcome .carry ≡ c
 
 -- what recording leaves in a board of bays of so many numbers: every other bay stays as it was, on success too
 pub record OthersStay (width i : ℕ) (before after : List ℕ) : Type 0 where

@@ -7,6 +7,7 @@ use Rattle.laws.specs.Bytes.{Bytes}
 use Rattle.terms.specs.declared.Settings.{Settings}
 use Rattle.terms.specs.declared.Label.{Label}
 use Rattle.terms.specs.declared.Answer.{Answer}
+use Rattle.terms.specs.Settings.{noSettings}
 use Rattle.terms.specs.Labels.{byteOf}
 use Rattle.terms.specs.Answers.{answerCount}
 use Rattle.words.specs.Numbers.{numbersOf, numberAt}
@@ -14,7 +15,7 @@ use Rattle.sheet_format.specs.Forms.{cutsForm}
 use Rattle.sheet_format.specs.Sheets.{sheetOf}
 use Rattle.sheet_format.specs.Clean.{trailerOf, sheetIn, listIn, ReadsCleanly}
 use Rattle.sheet.specs.declared.Sheet.{Sheet}
-use Rattle.sheet.specs.Answers.{noSettings, sheetLabel, sheetSettings, sheetCount}
+use Rattle.sheet.specs.Answers.{sheetLabel, sheetSettings, sheetCount}
 
 -- beside a refusal of reading every value is 0
 pub record NothingRead (answer : Sheet) : Type 0 where

@@ -3,3 +3,4 @@ pub mod Chain
 pub mod Next
 pub mod Hops
 pub mod Leaps
+pub mod Whole

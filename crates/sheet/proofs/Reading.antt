@@ -3,8 +3,8 @@ use mathlib.Core.Path.{_≡_, sym, ap, _∙_}
 use mathlib.Core.Bool.{not}
 use mathlib.Core.List.{List}
 use Prim.Native.Nat.{ℕ, _≤_, _<_}
-use native.Mathlib.Omega.{arith}
 use borrow.Author.Tests.{eqb-true, eq-eqb, ne-eqb, ltb-false, le-ltb, lt-ltb, not-false}
+use Rattle.laws.proofs.Cases.{impossible}
 use Rattle.terms.specs.declared.Settings.{Settings}
 use Rattle.terms.specs.declared.Label.{Label}
 use Rattle.terms.specs.declared.Refusal.{Refusal}
@@ -62,7 +62,7 @@ module _ (bytes : List ℕ) (asked : Label) (room : ℕ) where
       (passed (f .0), f .1)
     where
       never : (why : Refusal) → Refused why ≡ Read label settings count → ⊥
-      never why p = let z : _≡_ {A = ℕ} 0 1 = cc in omega arith
+      never why p = impossible (cc)
 
   pub not-read : (ReadsCleanly cutsForm bytes → ⊥) → (why : Refusal) × (readSheetAnswer bytes asked room ≡ Refused why)
   unfolding readSheetAnswer

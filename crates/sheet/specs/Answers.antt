@@ -2,12 +2,10 @@
 -- settings and the count, each 0 beside a refusal.
 use Prim.Native.Nat.{ℕ}
 use Rattle.terms.specs.declared.Settings.{Settings}
+use Rattle.terms.specs.Settings.{noSettings}
 use Rattle.terms.specs.Refusals.{numberOf}
 use Rattle.sheet.specs.declared.Sheet.{Sheet}
 use Rattle.sheet.specs.declared.Sheet.the-variants.{Read, Refused}
-
-abbrev pub noSettings : Settings
-noSettings = record { bits = 0; target = 0; minimum = 0; maximum = 0 }
 
 unfoldable pub sheetNumber : Sheet → ℕ
 sheetNumber (Read label settings count) = 0

@@ -3,7 +3,8 @@
 use mathlib.Core.Path.{_≡_, refl, sym, ap, ap₂, subst, _∙_}
 use mathlib.Core.Logic.{_↔_}
 use Prim.Native.Nat.{ℕ, zero, suc, _+_, _*_, _/_, _%_, _^_, _≤_, _<_}
-use native.Mathlib.Nat.{not-suc-le-zero, zero-mul, one-mul, zero-div, zero-mod, mod-lt, mod-eq-of-lt, div-eq-of-lt, div-le-self, div-lt-iff-lt-mul, div-add-mod', lt-of-le-of-lt, add-zero, mod-self, div-self, mul-zero, mul-add, add-mul, add-assoc, le-refl, mul-assoc, mul-comm}
+use native.Mathlib.Nat.{not-suc-le-zero, zero-mul, one-mul, zero-div, zero-mod, mod-lt, mod-eq-of-lt, div-eq-of-lt, div-le-self, div-lt-iff-lt-mul, div-add-mod'}
+use native.Mathlib.Nat.{lt-of-le-of-lt, add-zero, mod-self, div-self, mul-zero, mul-add, add-mul, add-assoc, le-refl, mul-assoc, mul-comm}
 use native.Mathlib.Decide.{le-ind}
 use native.Mathlib.Omega.{arith}
 use lib.Arith.{bin-ind, half-le, digits-lt}

@@ -9,7 +9,7 @@ use native.Mathlib.Omega.{arith}
 use lib.Arith.{digits-lt}
 use lib.Dec.{lit<, lit≤}
 use lib.Pow.{pow-pos, pow-mono, shl-exact}
-use lib.Bits.{bitAnd, bitOr, bitXor, and-mask, or-shifted, xor-comm, xor-shifted}
+use lib.Bits.{bitAnd, bitXor, and-mask, xor-comm, xor-shifted}
 use lib.ListN.{length, getD, take, drop, length-drop}
 use lib.Seq.{take-suc, drop-cons, getD-drop, length-take-le}
 use Rattle.laws.proofs.Bytes.{byte-power, number-lt, number-snoc, bytes-drop, bytes-take}
@@ -76,9 +76,9 @@ shifted-low e w s fits =
 
 -- a byte enters by shifts and masks in a word of w bits: the e low digits move up by 8, and x stands for those above them
 pub grown-by-shifts : (e l w : ℕ) → l < 2 ^ (e + 8) → e + 8 ≤ w → (s b x : ℕ) → b < 2 ^ 8 → x ≡ rem (e + 8) l (s / 2 ^ e * 2 ^ (e + 8))
-    → bitXor (bitOr (bitAnd s (2 ^ e - 1) * 2 ^ 8 % 2 ^ w) b) x ≡ grown (e + 8) l s b
+    → bitXor (bitXor (bitAnd s (2 ^ e - 1) * 2 ^ 8 % 2 ^ w) b) x ≡ grown (e + 8) l s b
 grown-by-shifts e l w low fits s b x hb is-x =
-    ap₂ bitXor (ap (λ (n : ℕ). bitOr n b) (shifted-low e w s fits) ∙ or-shifted (s % 2 ^ e) 8 b hb) is-x
+    ap₂ bitXor (ap (λ (n : ℕ). bitXor n b) (shifted-low e w s fits) ∙ xor-shifted (s % 2 ^ e) 8 b hb) is-x
     ∙ xor-comm (s % 2 ^ e * 2 ^ 8 + b) (rem (e + 8) l (s / 2 ^ e * 2 ^ (e + 8)))
     ∙ sym (rem-by-top e 8 l low s b hb)
     ∙ sym (grown-reduced (e + 8) l low (omega arith) s b hb)

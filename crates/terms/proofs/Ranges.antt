@@ -1,7 +1,8 @@
 -- Settings that passed their test, as facts by name.
-use Prim.Native.Nat.{_-_, _^_, _≤_}
+use Prim.Native.Nat.{_-_, _^_, _≤_, _<_}
 use mathlib.Core.Path.{_≡_}
 use mathlib.Core.Bool.{true}
+use native.Mathlib.Omega.{arith}
 use borrow.Author.Tests.{leb-true}
 use Rattle.laws.proofs.Cases.{both-true}
 use Rattle.terms.specs.declared.Settings.{Settings}
@@ -13,6 +14,7 @@ pub record Ranges (s : Settings) : Type 0 where
   pub some-target : 1 ≤ s .target
   pub low-target : s .target ≤ 2 ^ s .bits - 1
   pub window-fits : 48 ≤ s .minimum
+  pub positive : 0 < s .minimum
   pub bounded : s .maximum ≤ 16_777_216
   pub ordered : s .minimum ≤ s .maximum
 
@@ -31,6 +33,7 @@ ranges s ok =
       some-target = leb-true _ _ (c .0);
       low-target = leb-true _ _ (d .0);
       window-fits = leb-true _ _ (e .0);
+      positive = omega (arith, leb-true 48 (s .minimum) (e .0));
       bounded = leb-true _ _ (f .0);
       ordered = leb-true _ _ (f .1);
     }

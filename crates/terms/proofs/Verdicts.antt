@@ -1,25 +1,25 @@
 -- What a table of rows says of a call's number, its answer and what it leaves, for every call at once.
-use Prim.Native.Nat.{ℕ}
+use Prim.Native.Nat.{ℕ, _<_}
 use mathlib.Core.Path.{_≡_, refl, sym, ap, _∙_}
 use mathlib.Core.Bool.{Bool, true, false, not}
 use mathlib.Core.List.{List, [], _∷_, _++_}
 use native.Mathlib.Omega.{arith}
 use lib.Dec.{eqb}
-use borrow.Author.Tests.{eqb-true, eqb-false, eq-eqb}
-use Rattle.laws.proofs.Cases.{by-test, clash}
+use borrow.Author.Tests.{eqb-true, eq-eqb}
+use Rattle.laws.proofs.Cases.{by-test, clash, impossible}
 use Rattle.terms.specs.declared.Refusal.{Refusal}
 use Rattle.terms.specs.declared.Verdict.{Verdict}
 use Rattle.terms.specs.declared.Verdict.the-variants.{Fine, Wrong}
 use Rattle.terms.specs.Refusals.{numberOf}
 use Rattle.terms.specs.Answers.{unless}
-use Rattle.terms.specs.Rows.{Row, row, first, verdict, ruled, leaves, lacks}
+use Rattle.terms.specs.Rows.{Row, row, first, verdict, ruled, firstRow, leaves, lacks}
 
 pub by-verdict {ℓ} : {C : Type ℓ} (v : Verdict) → (v ≡ Fine → C) → ((why : Refusal) → v ≡ Wrong why → C) → C
 by-verdict Fine f g = f refl
 by-verdict (Wrong why) f g = g why refl
 
 pub not-both : {v : Verdict} {why : Refusal} → v ≡ Wrong why → v ≡ Fine → ⊥
-not-both p q = let z : _≡_ {A = ℕ} 0 1 = cc in omega arith
+not-both p q = impossible (cc)
 
 -- numbers, counts and parts of an answer: what is asked of the answer is asked of both its ways
 pub through {ℓ κ} : {A : Type ℓ} {B : Type κ} (f : A → B) (v : Verdict) (refused : Refusal → A) (fine : A)
@@ -149,3 +149,12 @@ pub succeeded : {A : Type 0} (v : Verdict) (refused : Refusal → A) (fine : A) 
     → ((why : Refusal) → refused why ≡ answer → ⊥) → (v ≡ Fine) × (fine ≡ answer)
 succeeded Fine refused fine e never = (refl, e)
 succeeded (Wrong why) refused fine e never = absurd (never why e)
+
+-- a table's last number is answered only where its last row holds, and no row above it
+pub last-holds : (but : Refusal) (rows : List Row) (holds : Bool) → lacks but rows ≡ true → 0 < numberOf but
+    → firstRow (rows ++ (row but holds ∷ [])) ≡ numberOf but → (verdict rows ≡ Fine) × (holds ≡ true)
+unfolding verdict
+last-holds but rows holds l above e =
+    by-verdict (verdict rows)
+    (λ v. (v, by-test holds (λ t. t) (λ t. let none : 0 ≡ numberOf but = rw (joined rows (row but holds ∷ []), v, t) at e in absurd (omega arith))))
+    (λ why v. let same : numberOf why ≡ numberOf but = rw (joined rows (row but holds ∷ []), v) at e in absurd (clash (sym (eq-eqb _ _ same) ∙ lacking but rows l v)))

@@ -14,3 +14,7 @@ inRange s =
     && (leb 48 (s .minimum)
     && (leb (s .maximum) 16_777_216
     && leb (s .minimum) (s .maximum))))))
+
+-- settings with every part 0: what stands beside a refusal
+abbrev pub noSettings : Settings
+noSettings = record { bits = 0; target = 0; minimum = 0; maximum = 0 }

@@ -1,6 +1,6 @@
 // The terms that every call shares: the settings, the two labels and the numbers answered.
 ghost use mathlib.Core.Path.{_≡_};
-ghost use Rattle.terms.specs.Settings.{inRange};
+ghost use Rattle.terms.specs.Settings.{inRange, noSettings};
 ghost use Rattle.terms.specs.Refusals.{numberOf};
 ghost use Rattle.terms.specs.Labels.{byteOf};
 
@@ -64,6 +64,18 @@ pub enum Verdict {
 pub const LONGEST: u64 = 1_099_511_627_776;
 
 impl Settings {
+    // Every part 0: what stands beside a refusal.
+    pub fn none() -> Settings
+        ensures { λ r. ⌜ r ≡ noSettings ⌝ }
+    {
+        Settings {
+            bits: 0,
+            target: 0,
+            minimum: 0,
+            maximum: 0,
+        }
+    }
+
     // Whether every setting is within its range.
     pub fn in_range(self) -> bool
         ensures { λ r. ⌜ r ≡ inRange self ⌝ }

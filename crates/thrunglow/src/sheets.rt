@@ -43,12 +43,7 @@ fn reading_of(sheet: Sheet) -> Reading
         Sheet::Refused(why) => Reading {
             number: why.number(),
             label: 0,
-            settings: Settings {
-                bits: 0,
-                target: 0,
-                minimum: 0,
-                maximum: 0,
-            },
+            settings: Settings::none(),
             count: 0,
         },
     }

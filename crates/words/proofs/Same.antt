@@ -9,7 +9,7 @@ use lib.Dec.{eqb}
 use borrow.Author.Tests.{eq-eqb, ne-eqb, eqb-true}
 use lib.ListN.{length, getD, drop, drop-of-length-le}
 use lib.Seq.{drop-cons}
-use Rattle.laws.proofs.Cases.{and-false, both-true}
+use Rattle.laws.proofs.Cases.{and-false, both-true, impossible}
 use Rattle.words.specs.Runs.{same}
 
 -- every run is the same as itself, and as no other
@@ -21,8 +21,8 @@ same-self (x ∷ l) = rw (eq-eqb x x refl) (same-self l)
 pub same-true : (a b : List ℕ) → same a b ≡ true → a ≡ b
 unfolding same
 same-true [] [] e = refl
-same-true [] (y ∷ b) e = let z : _≡_ {A = ℕ} 0 1 = cc in absurd (omega arith)
-same-true (x ∷ a) [] e = let z : _≡_ {A = ℕ} 0 1 = cc in absurd (omega arith)
+same-true [] (y ∷ b) e = impossible (cc)
+same-true (x ∷ a) [] e = impossible (cc)
 same-true (x ∷ a) (y ∷ b) e =
     let halves = both-true {a = eqb x y} e in
     ap₂ (λ (h : ℕ) (r : List ℕ). h ∷ r) (eqb-true x y (halves .0)) (same-true a b (halves .1))

@@ -1,8 +1,15 @@
 //! A fuzz target: any bytes stand for a call of read_sheet, merge, amend or block, and the library's answer is held to the second
 //! program's. `host/fuzz/run` fuzzes with clang's libFuzzer; `cargo run --release --offline -p fuzz FILE...` runs files.
+//!
+//! Nearly all bytes that are taken as they are get no further than a call's first rows. So they also stand for a right sheet, board,
+//! edit or carry, and for the damage done to it.
 
-use thrunglow::{Carry, Settings};
-use trials::{compare, inputs};
+mod boards;
+mod input;
+mod passes;
+mod sheets;
+
+use input::Input;
 
 /// What libFuzzer calls. A difference ends the program.
 ///
@@ -17,127 +24,36 @@ pub unsafe extern "C" fn LLVMFuzzerTestOneInput(start: *const u8, length: usize)
     0
 }
 
-/// Asks the call that the bytes stand for.
-pub fn call(input: &[u8]) {
+/// What the first byte chooses from.
+const CALLS: [fn(&mut Input) -> u32; 6] =
+    [sheets::read_any, sheets::read_damaged, boards::merge_any, boards::merge_damaged, passes::amend, passes::block];
+
+/// Asks the call that the bytes stand for, and gives the number answered.
+pub fn call(input: &[u8]) -> u32 {
     let mut input = Input(input);
-    match input.byte() % 5 {
-        0 => read_sheet(input.byte(), input.0),
-        1 => {
-            let (choices, mut sheet) = (input.byte(), input.0.to_vec());
-            inputs::mend_check_word(&mut sheet);
-            read_sheet(choices, &sheet);
-        }
-        2 => merge(&mut input),
-        3 => amend(&mut input),
-        _ => block(&mut input),
-    }
-}
-
-/// Bytes that are taken from the front, zeros when they are used up.
-struct Input<'a>(&'a [u8]);
-
-impl Input<'_> {
-    fn byte(&mut self) -> u8 {
-        let (first, rest) = self.0.split_first().unwrap_or((&0, &[]));
-        self.0 = rest;
-        *first
-    }
-
-    fn bytes<const N: usize>(&mut self) -> [u8; N] {
-        std::array::from_fn(|_| self.byte())
-    }
-
-    /// A number: mostly of 16 bits, or an extreme, or any.
-    fn number(&mut self) -> u64 {
-        let short = u16::from_le_bytes(self.bytes());
-        match short >> 8 {
-            0xFF => inputs::EXTREMES[short as usize % inputs::EXTREMES.len()],
-            0xFE => u64::from_le_bytes(self.bytes()),
-            _ => short.into(),
-        }
-    }
-
-    fn settings(&mut self) -> Settings {
-        let kind = self.byte();
-        if kind >= 250 {
-            let (bits, target) = (self.number() as u32, self.number() as u32);
-            return Settings { bits, target, minimum: self.number(), maximum: self.number() };
-        }
-        let bits = 1 + u32::from(kind) % 31;
-        let target = 1 + u32::from(self.byte()) % ((1 << bits) - 1);
-        let minimum = 48 + u64::from(self.byte());
-        Settings { bits, target, minimum, maximum: minimum + u64::from(self.byte()) }
-    }
-
-    /// A list to lend, of the room needed or a little less or more.
-    fn list(&mut self, needed: usize) -> Vec<u64> {
-        let room = (needed.min(5_000) + usize::from(self.byte() % 8)).saturating_sub(2);
-        vec![7; room]
-    }
-}
-
-fn read_sheet(choices: u8, sheet: &[u8]) {
-    compare::read_sheet(sheet, choices % 2 == 1, &vec![7; usize::from(choices / 2)]);
-}
-
-fn merge(input: &mut Input) {
-    let settings = input.settings();
-    let (n, size, room) = (input.number(), input.number(), input.number());
-    let list = input.list(inputs::room(&settings, n));
-    let mut board = Vec::new();
-    while !input.0.is_empty() {
-        board.push(input.number());
-    }
-    compare::merge(settings, n, size, room, &board, &list);
-}
-
-fn amend(input: &mut Input) {
-    let settings = input.settings();
-    let edit = [input.number(), input.number(), input.number()];
-    let mut old: Vec<u64> = (0..input.byte() % 32).map(|_| input.number()).collect();
-    // Steps, so that most lists rise.
-    for k in 1..old.len() {
-        old[k] = old[k].wrapping_add(old[k - 1]);
-    }
-    let choices = input.byte();
-    let end = old.last().copied().unwrap_or(0);
-    let fitting = end.wrapping_sub(edit[1]).wrapping_add(edit[2]);
-    let mut log = input.0.to_vec();
-    if !choices.is_multiple_of(8) && fitting < 5_000 {
-        log.resize(fitting as usize, choices);
-    }
-    let list = input.list(inputs::room(&settings, log.len() as u64));
-    compare::amend(settings, &old, edit, &log, &list);
-}
-
-fn block(input: &mut Input) {
-    let settings = input.settings();
-    let (taken, since) = (input.number(), input.number());
-    let choices = input.byte();
-    let mut window: [u8; 48] = input.bytes();
-    if !choices.is_multiple_of(4) {
-        window[..48_u64.saturating_sub(taken) as usize].fill(0);
-    }
-    let mut signature = second::remainder(&window) as u32;
-    if (choices / 4).is_multiple_of(8) {
-        signature ^= u32::from_le_bytes(input.bytes());
-    }
-    let carry = Carry { settings, taken, since, window, signature, closed: choices >= 240 };
-    let list = input.list(inputs::room(&settings, input.0.len() as u64));
-    compare::block(carry, input.0, &list);
-    compare::close(carry, &list);
+    CALLS[usize::from(input.byte()) % CALLS.len()](&mut input)
 }
 
 #[cfg(test)]
 mod tests {
+    use super::{CALLS, call};
     use noise::Noise;
+    use std::collections::BTreeSet;
 
+    /// The numbers that random bytes lead to, for each call.
     #[test]
-    fn any_bytes_stand_for_a_call() {
-        for seed in 0..20_000 {
+    fn random_bytes_lead_past_the_first_rows() {
+        let mut answered = vec![BTreeSet::new(); CALLS.len()];
+        for seed in 0..30_000 {
             let mut noise = Noise::new(seed);
-            let length = noise.below(300) as usize;
-            super::call(&noise.log(length));
+            let length = noise.between(1, 300) as usize;
+            let input = noise.log(length);
+            answered[usize::from(input[0]) % CALLS.len()].insert(call(&input));
         }
+        let [_, sheets, _, boards, amendments, blocks] = &answered[..] else { panic!("six calls") };
+        assert!([0, 5, 10, 12, 13, 14, 15].iter().all(|number| sheets.contains(number)), "{sheets:?}");
+        assert!([0, 1, 5, 7, 8, 9].iter().all(|number| boards.contains(number)), "{boards:?}");
+        assert!([0, 1, 5, 10, 11].iter().all(|number| amendments.contains(number)), "{amendments:?}");
+        assert!([0, 1, 2, 3, 4, 5].iter().all(|number| blocks.contains(number)), "{blocks:?}");
     }
 }

@@ -1,10 +1,8 @@
-//! The exports in the library's code, the header and the wrapper declare the same calls and structs, and the wrapper's refusals
-//! have the library's names and numbers.
+//! The exports in the library's code, the header and the wrapper declare the same calls and structs.
 
 use std::collections::BTreeMap;
 use std::fs;
 use std::path::Path;
-use thrunglow::Error;
 
 /// Calls and structs by name. A call has its parameters and, last, its result; a struct its fields. Types are written as Rust does.
 type Declared = BTreeMap<String, Vec<(String, String)>>;
@@ -12,6 +10,13 @@ type Declared = BTreeMap<String, Vec<(String, String)>>;
 fn read(path: &str) -> String {
     let path = Path::new(env!("CARGO_MANIFEST_DIR")).join(path);
     fs::read_to_string(&path).unwrap_or_else(|error| panic!("{}: {error}", path.display()))
+}
+
+/// The crates by name.
+fn crates() -> Vec<String> {
+    let listed = read("../../crates.txt");
+    let lines = listed.lines().filter(|line| !line.starts_with('#'));
+    lines.filter_map(|line| Some(line.split_once(':')?.0.to_string())).collect()
 }
 
 /// The code of a crate of the library, its files joined.
@@ -138,41 +143,11 @@ fn the_calls_are_declared_alike() {
 #[test]
 fn the_structs_are_declared_alike() {
     let names = ["Settings", "Carry", "Outcome", "Passed", "Amendment", "Reading"];
-    let mut exported = rust_structs(&["terms", "carry", "thrunglow"].map(library).concat());
+    let code: String = crates().iter().map(|name| library(name)).collect();
+    let mut exported = rust_structs(&code);
     exported.retain(|name, _| names.contains(&name.as_str()));
     assert_eq!(exported.len(), names.len(), "{:?}", exported.keys());
     assert_eq!(c_structs(&header()), exported);
     let wrapper = ["src/raw.rs", "src/settings.rs", "src/cutter.rs"].map(read).concat();
     assert_eq!(rust_structs(&wrapper), exported);
-}
-
-#[test]
-fn the_refusals_have_the_librarys_names_and_numbers() {
-    let code = library("terms");
-    let rows = after(&code, "Refusal::", &['\n']).filter_map(|row| row.trim_end_matches(',').split_once(" => "));
-    let mut numbered: BTreeMap<u32, String> = BTreeMap::new();
-    for (name, number) in rows {
-        if let Ok(number) = number.parse() {
-            numbered.insert(number, name.to_string());
-        }
-    }
-    let ours: BTreeMap<u32, String> = Error::ALL.iter().map(|error| (error.number(), format!("{error:?}"))).collect();
-    assert_eq!(ours, numbered);
-}
-
-#[test]
-fn each_refusal_says_what_to_do() {
-    for error in Error::ALL {
-        let (what, to_do) = error.to_string().split_once(": ").map(|(a, b)| (a.len(), b.len())).expect("two parts");
-        assert!(what > 15 && to_do > 15, "{error}");
-    }
-}
-
-#[test]
-fn the_handbook_has_a_row_for_each_number() {
-    let handbook = read("../../docs/HANDBOOK.md");
-    for error in Error::ALL {
-        let row = format!("| {} | `{error:?}` | ", error.number());
-        assert_eq!(handbook.matches(&row).count(), 1, "{row}");
-    }
 }

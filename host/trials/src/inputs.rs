@@ -27,7 +27,7 @@ pub const EXTREMES: [u64; 18] = [
 ];
 
 /// A number of any size: small ones are as likely as large ones.
-fn any_size(noise: &mut Noise, low: u64, high: u64) -> u64 {
+pub fn any_size(noise: &mut Noise, low: u64, high: u64) -> u64 {
     let bits = noise.between(low.max(1).ilog2().into(), high.ilog2().into());
     noise.between(low.max(1 << bits), high.min((2 << bits) - 1))
 }
@@ -47,6 +47,15 @@ pub fn wide_settings(noise: &mut Noise) -> Settings {
     let target = noise.pick(&[1, any_target, (1 << bits) - 1]) as u32;
     let minimum = any_size(noise, 48, 1 << 24);
     Settings { bits, target, minimum, maximum: any_size(noise, minimum, 1 << 24) }
+}
+
+/// Settings for a log of many times the minimum: marks about that far apart, and a maximum that lets most cuts be marks and segments
+/// have markers.
+pub fn roomy_settings(noise: &mut Noise, minimum: u64) -> Settings {
+    let bits = minimum.ilog2() - 1 + noise.below(3) as u32;
+    let target = noise.between(1, (1 << bits) - 1) as u32;
+    let above = any_size(noise, minimum, 8 * minimum);
+    Settings { bits, target, minimum, maximum: 2 * minimum + above }
 }
 
 /// Settings with one of them out of range, or at the edge of it.
@@ -92,6 +101,22 @@ pub fn log(noise: &mut Noise, settings: &Settings, size: u64) -> Vec<u8> {
     if noise.once_in(3) { lone_ones(noise, settings, size, length) } else { noise.log(length) }
 }
 
+/// A log of some thousands of bytes, and settings for it.
+pub fn long_log(noise: &mut Noise) -> (Settings, Vec<u8>) {
+    let length = any_size(noise, 2_000, 80_000);
+    let minimum = any_size(noise, 48, length / 4);
+    (roomy_settings(noise, minimum), noise.log(length as usize))
+}
+
+/// Settings and a log for them: mostly a short one, now and then a longer one.
+pub fn settings_and_log(noise: &mut Noise) -> (Settings, Vec<u8>) {
+    if noise.once_in(100) {
+        return long_log(noise);
+    }
+    let settings = settings(noise);
+    (settings, log(noise, &settings, 64))
+}
+
 /// Zeros with ones at least 48 apart: where the target is 1, a mark after each and, for 31 bits, nowhere else. The gaps put marks
 /// at the edges of pieces, of markers' steps and of segments.
 fn lone_ones(noise: &mut Noise, settings: &Settings, size: u64, length: usize) -> Vec<u8> {
@@ -133,28 +158,14 @@ pub fn untrue_list(noise: &mut Noise, settings: &Settings, end: u64) -> Vec<u64>
     cuts
 }
 
-/// Damages a list in one of the ways there are.
-pub fn damage(noise: &mut Noise, list: &mut Vec<u64>) {
-    let Some(last) = list.len().checked_sub(1) else { return list.push(noise.pick(&EXTREMES)) };
-    let at = noise.between(0, last as u64) as usize;
-    match noise.below(7) {
-        0 => list[at] = noise.pick(&EXTREMES),
-        1 => list[at] ^= 1 << noise.below(64),
-        2 => list[at] = list[at].wrapping_add(noise.pick(&[1, u64::MAX])),
-        3 => list.swap(at, last),
-        4 => list.insert(at, list[at]),
-        5 => list.insert(at, noise.between(0, list[at])),
-        _ => drop(list.remove(at)),
-    }
-}
-
-/// Marks of a log of that length as no log may have them: crowded, far apart, in turns, at the edges of segments.
-pub fn marks(noise: &mut Noise, n: u64, size: u64) -> Vec<u64> {
+/// Marks of a log of that length as no log may have them: crowded, far apart, in turns, at the edges of segments. The gaps go by
+/// the scale.
+pub fn marks(noise: &mut Noise, n: u64, size: u64, scale: u64) -> Vec<u64> {
     let mut marks = Vec::new();
-    let mut mark = 48 + noise.below(150);
+    let mut mark = 48 + noise.below(150 * scale);
     while mark <= n {
         marks.push(mark);
-        let gap = noise.pick(&[3, 60, 150, 400]);
+        let gap = scale * noise.pick(&[3, 60, 150, 400]);
         mark += if noise.once_in(4) { size - mark % size + noise.below(2) } else { noise.between(1, gap) };
     }
     marks
@@ -164,24 +175,6 @@ pub fn marks(noise: &mut Noise, n: u64, size: u64) -> Vec<u64> {
 pub fn board(settings: &Settings, n: u64, marks: &[u64], size: u64, bay: &[u64]) -> Vec<u64> {
     let record = |index| second::record(&plain(*settings), n, marks, size, index);
     (0..n.div_ceil(size)).flat_map(|index| second::fill_bay(&record(index), bay).2).collect()
-}
-
-/// Damages a bay in one of the ways there are.
-pub fn damage_bay(noise: &mut Noise, bay: &mut [u64]) {
-    let offsets = bay[0].saturating_sub(1).min(bay.len() as u64 - 2);
-    let any = noise.between(0, bay.len() as u64 - 1) as usize;
-    let listed = 2 + noise.below(offsets.max(1)) as usize;
-    match noise.below(9) {
-        0 => bay[0] = 0,
-        1 => bay[0] = bay.len() as u64 - 1 + noise.below(3),
-        2 => bay[0] = noise.pick(&EXTREMES),
-        3 => bay[0] = bay[0].wrapping_add(noise.pick(&[1, u64::MAX])),
-        4 => bay[1] = noise.pick(&[0, 1, u64::MAX, bay[listed.min(bay.len() - 1)]]),
-        5 => bay[1] ^= 1 << noise.below(12),
-        6 => bay[any] = noise.pick(&EXTREMES),
-        7 => bay[any] = bay[any].wrapping_add(noise.pick(&[1, 2, 48, 200, u64::MAX, u64::MAX - 1])),
-        _ => bay[any] ^= 1 << noise.below(64),
-    }
 }
 
 /// A carry in order, whether a log leads to it or not.
@@ -196,45 +189,5 @@ pub fn carry(noise: &mut Noise, settings: Settings) -> Carry {
     let before_the_log = 48_u64.saturating_sub(taken) as usize;
     window[..before_the_log].fill(0);
     let signature = second::remainder(&window) as u32;
-    Carry { settings, taken, since, window, signature, closed: noise.once_in(10) }
-}
-
-/// Alters one field of a carry.
-pub fn damage_carry(noise: &mut Noise, carry: &mut Carry) {
-    match noise.below(6) {
-        0 => carry.settings = wrong_settings(noise),
-        1 => carry.taken = noise.pick(&EXTREMES),
-        2 => carry.since = noise.pick(&[carry.taken, carry.taken.wrapping_add(1), carry.settings.maximum, 1 << 40]),
-        3 => carry.window[noise.below(48) as usize] ^= 1 << noise.below(8),
-        4 => carry.signature ^= 1 << noise.below(32),
-        _ => carry.closed = !carry.closed,
-    }
-}
-
-/// Makes the check word right again, so that what else is wrong is found.
-pub fn mend_check_word(sheet: &mut [u8]) {
-    let Some(start) = sheet.len().checked_sub(32) else { return };
-    let count = u32::from_be_bytes(sheet[start + 20..start + 24].try_into().expect("4 bytes")) as usize;
-    let body = start.saturating_sub(8 * count.min(start));
-    let words =
-        sheet[body..start + 28].chunks_exact(4).map(|word| u32::from_be_bytes(word.try_into().expect("4 bytes")));
-    let sum = words.fold(0, u32::wrapping_add);
-    sheet[start + 28..].copy_from_slice(&sum.wrapping_neg().to_be_bytes());
-}
-
-/// Damages a sheet in one of the ways there are.
-pub fn damage_sheet(noise: &mut Noise, sheet: &mut Vec<u8>) {
-    let at = noise.below(sheet.len() as u64) as usize;
-    let in_trailer = sheet.len() - 32 + 4 * noise.below(8) as usize;
-    let extreme = noise.pick(&EXTREMES) as u32;
-    match noise.below(5) {
-        0 => sheet[at] ^= 1 << noise.below(8),
-        1 => sheet[in_trailer..in_trailer + 4].copy_from_slice(&extreme.to_be_bytes()),
-        2 => sheet.truncate(at),
-        3 => drop(sheet.drain(..at)),
-        _ => sheet.swap(at, in_trailer),
-    }
-    if noise.once_in(2) {
-        mend_check_word(sheet);
-    }
+    Carry { settings, taken, since, window, signature, closed: noise.once_in(10).into() }
 }

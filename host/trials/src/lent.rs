@@ -1,24 +1,88 @@
-//! Memory to lend, with guard values around it.
+//! Memory to lend, with guard values around it and, where asked for, a fence right before or right after it.
 
-use std::fmt::Debug;
+use crate::fenced::{Fenced, Number};
+use std::cell::Cell;
+use std::ops::{Deref, DerefMut};
 
-/// Memory in the middle of more memory, whose values are known. Where it starts goes by its length, so that all alignments come up.
+/// Where lent memory lies.
+#[derive(Clone, Copy, Debug, PartialEq, Eq)]
+pub enum Place {
+    /// At every alignment, as its length has it.
+    Anywhere,
+    /// Its first byte is the first after a fence.
+    AfterFence,
+    /// Its last byte is the last before a fence.
+    BeforeFence,
+}
+
+thread_local! {
+    static PLACE: Cell<Place> = const { Cell::new(Place::Anywhere) };
+}
+
+/// Does the work with all memory that this thread lends in that place.
+pub fn lending<T>(place: Place, work: impl FnOnce() -> T) -> T {
+    let before = PLACE.replace(place);
+    let done = work();
+    PLACE.set(before);
+    done
+}
+
+/// The memory that is lent a part of.
+enum Cells<T> {
+    Loose(Vec<T>),
+    Fenced(Fenced<T>),
+}
+
+impl<T: Number> Deref for Cells<T> {
+    type Target = [T];
+
+    fn deref(&self) -> &[T] {
+        match self {
+            Cells::Loose(cells) => cells,
+            Cells::Fenced(cells) => cells,
+        }
+    }
+}
+
+impl<T: Number> DerefMut for Cells<T> {
+    fn deref_mut(&mut self) -> &mut [T] {
+        match self {
+            Cells::Loose(cells) => cells,
+            Cells::Fenced(cells) => cells,
+        }
+    }
+}
+
+/// Memory among other memory, whose values are known.
 pub struct Lent<T> {
-    cells: Vec<T>,
+    cells: Cells<T>,
     start: usize,
     length: usize,
 }
 
-impl<T: Copy + Debug + PartialEq + From<u8>> Lent<T> {
+impl<T: Number> Lent<T> {
     const GUARDS: usize = 64;
 
-    /// Memory that holds this.
+    /// Memory that holds this, in the place that this thread lends from.
     pub fn holding(contents: &[T]) -> Lent<T> {
-        let start = Self::GUARDS + contents.len() % 8;
-        let mut cells: Vec<T> = (0..start).map(Self::guard).collect();
-        cells.extend(contents);
-        cells.extend((0..Self::GUARDS).map(Self::guard));
-        Lent { cells, start, length: contents.len() }
+        let length = contents.len();
+        let (mut cells, start) = match PLACE.get() {
+            Place::Anywhere => {
+                let start = Self::GUARDS + length % 8;
+                (Cells::Loose(vec![T::from(0); start + length + Self::GUARDS]), start)
+            }
+            Place::AfterFence => (Cells::Fenced(Fenced::with_room(length)), 0),
+            Place::BeforeFence => {
+                let cells = Fenced::with_room(length);
+                let start = cells.len() - length;
+                (Cells::Fenced(cells), start)
+            }
+        };
+        for (k, cell) in cells.iter_mut().enumerate() {
+            *cell = Self::guard(k);
+        }
+        cells[start..][..length].copy_from_slice(contents);
+        Lent { cells, start, length }
     }
 
     fn guard(k: usize) -> T {
@@ -41,7 +105,8 @@ impl<T: Copy + Debug + PartialEq + From<u8>> Lent<T> {
         }
         let (before, rest) = self.cells.split_at(self.start);
         let after = &rest[self.length..];
-        let kept = |guards: &[T]| guards.iter().enumerate().all(|(k, guard)| *guard == Self::guard(k));
-        assert!(kept(before) && kept(after), "{}: written outside the memory lent", asked());
+        let kept = |first: usize, guards: &[T]| (first..).zip(guards).all(|(k, guard)| *guard == Self::guard(k));
+        let all_kept = kept(0, before) && kept(self.start + self.length, after);
+        assert!(all_kept, "{}: written outside the memory lent", asked());
     }
 }

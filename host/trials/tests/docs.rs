@@ -1,4 +1,4 @@
-//! What the documents name is there, and what is there they name: crates, wrong programs and theorems.
+//! What the documents name is there, and what is there they name: crates, wrong programs, theorems and tests.
 
 use std::collections::BTreeSet;
 use std::fs;
@@ -15,9 +15,9 @@ fn read(path: &str) -> String {
     fs::read_to_string(root(path)).unwrap_or_else(|error| panic!("{path}: {error}"))
 }
 
-/// The names of a folder's files; none where there is no such folder.
+/// The names of a folder's files.
 fn files(path: &str) -> Vec<String> {
-    let Ok(folder) = fs::read_dir(root(path)) else { return Vec::new() };
+    let folder = fs::read_dir(root(path)).unwrap_or_else(|error| panic!("{path}: {error}"));
     folder.map(|file| file.expect("a file").file_name().into_string().expect("a plain name")).collect()
 }
 
@@ -44,10 +44,11 @@ fn quoted(text: &str) -> impl Iterator<Item = &str> {
     text.split('`').skip(1).step_by(2)
 }
 
-/// Every must-fail edit of the crates.
+/// Every must-fail edit of the crates that have some.
 fn edits() -> BTreeSet<Held> {
     let of = |name: &String| {
-        let labels = files(&format!("crates/{name}/must-fail"));
+        let folder = format!("crates/{name}/must-fail");
+        let labels = if root(&folder).is_dir() { files(&folder) } else { Vec::new() };
         let name = name.clone();
         labels.into_iter().map(move |file| (name.clone(), file.trim_end_matches(".edit").to_string()))
     };
@@ -109,4 +110,15 @@ fn every_theorem_and_wrong_program_of_the_promises_is_there() {
     }
     let missing: Vec<_> = promised().difference(&told).cloned().collect();
     assert_eq!(missing, Vec::<Held>::new());
+}
+
+/// A test is named by its path, and may have a word in brackets after it.
+#[test]
+fn every_test_of_the_promises_is_there() {
+    for row in rows("docs/PROMISES.md", "# Promises") {
+        for test in row[3].split(", ") {
+            let path = test.split(" (").next().expect("a path");
+            assert!(root(path).exists(), "{path}");
+        }
+    }
 }

@@ -1,5 +1,6 @@
 //! Numbers near 2^40 and 2^64, and logs of more bytes than 2^40.
 
+use noise::Noise;
 use std::ffi::c_void;
 use thrunglow::raw::{self, Amendment, Outcome};
 use thrunglow::{Carry, Settings};
@@ -50,6 +51,20 @@ fn the_longest_board() {
         compare::merge(LONG, n, size, 2, &board, &list[..65_536]);
         compare::merge(LONG, n, size, 2, &board, &list);
     }
+}
+
+/// A bay for each segment of the longest log, with one offset in it; some offsets are cuts, some too near, and some cuts are forced.
+#[test]
+fn offsets_up_to_the_longest_log() {
+    let size = 1 << 24;
+    let settings = Settings { minimum: 1 << 22, maximum: 3 << 22, ..TIGHT };
+    let mut noise = Noise::new(1);
+    let offsets: Vec<u64> = (0..LONGEST / size).map(|k| k * size + noise.between(1 << 22, 3 << 22)).collect();
+    let board: Vec<u64> = offsets.iter().flat_map(|&offset| [2, 0, offset]).collect();
+    let (outcome, list) = compare::merge(settings, LONGEST, size, 3, &board, &vec![7; 262_145]);
+    let cuts = &list[..outcome.count as usize];
+    let listed = cuts.iter().filter(|cut| offsets.binary_search(cut).is_ok()).count();
+    assert!(listed > 1_000 && cuts.len() - listed > 1_000, "{outcome:?}, {listed} offsets");
 }
 
 #[test]
@@ -112,7 +127,7 @@ fn the_most_cuts_of_a_sheet() {
 fn carries_near_the_longest_log() {
     for taken in [LONGEST - 100, LONGEST - 48, LONGEST - 1, LONGEST, LONGEST + 1, u64::MAX - 99, u64::MAX] {
         for since in EXTREMES.into_iter().chain([99, 199, 200, 201, taken]) {
-            let carry = Carry { settings: TIGHT, taken, since, window: [0; 48], signature: 0, closed: false };
+            let carry = Carry { settings: TIGHT, taken, since, window: [0; 48], signature: 0, closed: 0 };
             for length in [0, 1, 47, 48, 49, 99, 100, 101] {
                 compare::block(carry, &vec![1; length], &[7; 3]);
             }
@@ -127,13 +142,14 @@ unsafe extern "C" {
 }
 
 /// Zeros that are never looked at: addresses of more bytes than 2^40, with no memory behind them.
-fn unread_log(length: u64) -> Option<&'static [u8]> {
+fn unread_log(length: u64) -> &'static [u8] {
     const READ: i32 = 1;
     const PRIVATE_ANONYMOUS_WITHOUT_RESERVE: i32 = 0x2 | 0x20 | 0x4000;
-    // SAFETY: a new mapping, read only and never taken away; it fails with -1, which is told apart.
+    // SAFETY: a new mapping, read only and never taken away; it fails with -1, which stops the trial.
     unsafe {
         let start = mmap(std::ptr::null_mut(), length as usize, READ, PRIVATE_ANONYMOUS_WITHOUT_RESERVE, -1, 0);
-        (start as isize != -1).then(|| std::slice::from_raw_parts(start.cast(), length as usize))
+        assert!(start as isize != -1, "this machine gives no addresses for a log of {length} bytes");
+        std::slice::from_raw_parts(start.cast(), length as usize)
     }
 }
 
@@ -141,10 +157,7 @@ fn unread_log(length: u64) -> Option<&'static [u8]> {
 /// that length is not copied for a comparison.
 #[test]
 fn logs_past_the_longest() {
-    let Some(log) = unread_log(LONGEST + 1) else {
-        eprintln!("SKIPPED: this machine gives no addresses for a log of more than 2^40 bytes");
-        return;
-    };
+    let log = unread_log(LONGEST + 1);
     let refused = |number| Outcome { number, count: 0 };
     let fits = &log[..LONGEST as usize];
     assert_eq!(raw::cut_log(TIGHT, log, &mut [7]), refused(2));

@@ -3,31 +3,8 @@
 
 use noise::Noise;
 use thrunglow::{Edit, Label, Settings, Sheet};
+use trials::ways::{amended, in_blocks, in_segments, merged, whole};
 use trials::{compare, inputs};
-
-/// The cuts by the whole-log call, and an empty list with the room they need.
-fn whole(settings: Settings, log: &[u8]) -> (Vec<u64>, Vec<u64>) {
-    let room = vec![7; inputs::room(&settings, log.len() as u64)];
-    let (outcome, list) = compare::cut_log(settings, log, &room);
-    assert_eq!(outcome.number, 0);
-    (list[..outcome.count as usize].to_vec(), room)
-}
-
-/// The cuts of blocks, taken one after the other.
-fn blocks<'a>(settings: Settings, blocks: impl Iterator<Item = &'a [u8]>) -> Vec<u64> {
-    let mut carry = compare::fresh(settings).carry;
-    let mut cuts = Vec::new();
-    for block in blocks {
-        let room = vec![7; inputs::room(&settings, block.len() as u64)];
-        let (passed, list) = compare::block(carry, block, &room);
-        assert_eq!(passed.number, 0);
-        cuts.extend(&list[..passed.count as usize]);
-        carry = passed.carry;
-    }
-    let (passed, list) = compare::close(carry, &[7]);
-    cuts.extend(&list[..passed.count as usize]);
-    cuts
-}
 
 #[test]
 fn blocks_split_at_each_place() {
@@ -35,13 +12,13 @@ fn blocks_split_at_each_place() {
     for _ in 0..12 {
         let settings = inputs::tight_settings(&mut noise);
         let log = inputs::log(&mut noise, &settings, 64);
-        let (cuts, _) = whole(settings, &log);
+        let cuts = whole(settings, &log);
         for at in 0..=log.len().min(300) {
             let (one, other) = log.split_at(at);
-            assert_eq!(blocks(settings, [one, other].into_iter()), cuts);
+            assert_eq!(in_blocks(settings, [one, other]), cuts);
         }
         for length in [1, 2, 47, 48, 49, 64] {
-            assert_eq!(blocks(settings, log.chunks(length)), cuts);
+            assert_eq!(in_blocks(settings, log.chunks(length)), cuts);
         }
     }
 }
@@ -61,7 +38,7 @@ fn segments_in_every_order() {
         let size = noise.between(64, 130);
         let length = size * segments - noise.below(size);
         let log = noise.log(length as usize);
-        let (cuts, list) = whole(settings, &log);
+        let cuts = whole(settings, &log);
         let room = 2 + size;
         let untouched: Vec<u64> = (0..segments * room).map(|_| noise.number()).collect();
         for order in orders(segments) {
@@ -76,8 +53,7 @@ fn segments_in_every_order() {
                 }
                 board = after;
             }
-            let (outcome, merged) = compare::merge(settings, length, size, room, &board, &list);
-            assert_eq!((outcome.number, &merged[..outcome.count as usize]), (0, &cuts[..]));
+            assert_eq!(merged(settings, length, size, room, &board), cuts);
         }
     }
 }
@@ -88,15 +64,7 @@ fn segments_of_each_size() {
     for size in 64..=260 {
         let settings = inputs::tight_settings(&mut noise);
         let log = inputs::log(&mut noise, &settings, size);
-        let n = log.len() as u64;
-        let (cuts, list) = whole(settings, &log);
-        let room = 2 + size.min(n);
-        let mut board = vec![0; (n.div_ceil(size) * room) as usize];
-        for index in (0..n.div_ceil(size)).rev() {
-            board = compare::segment(settings, &log, size, room, index, &board).1;
-        }
-        let (outcome, merged) = compare::merge(settings, n, size, room, &board, &list);
-        assert_eq!((outcome.number, &merged[..outcome.count as usize]), (0, &cuts[..]));
+        assert_eq!(in_segments(settings, &log, size), whole(settings, &log));
     }
 }
 
@@ -120,17 +88,14 @@ fn an_edit_at_each_place() {
         let settings = inputs::tight_settings(&mut noise);
         let log = inputs::log(&mut noise, &settings, 64);
         let log = &log[..log.len().min(500)];
-        let (old, _) = whole(settings, log);
+        let old = whole(settings, log);
         let inserted = noise.bytes(60);
         for at in 0..=log.len() {
             let removed = noise.between(0, (log.len() - at).min(100) as u64) as usize;
             for (removed, added) in [(0, 0), (0, 1), (removed, 0), (removed, 60)] {
                 let edited = [&log[..at], &inserted[..added], &log[at + removed..]].concat();
-                let (cuts, list) = whole(settings, &edited);
                 let edit = [at as u64, removed as u64, added as u64];
-                let (answer, amended) = compare::amend(settings, &old, edit, &edited, &list);
-                let count = (answer.front + answer.recut + answer.back) as usize;
-                assert_eq!((answer.number, &amended[..count]), (0, &cuts[..]));
+                assert_eq!(amended(settings, &old, edit, &edited).1, whole(settings, &edited));
             }
         }
     }
@@ -145,18 +110,16 @@ fn settings_over_their_ranges() {
         for target in [1, noise.between(1, (1 << bits) - 1), (1 << bits) - 1] {
             let minimum = noise.between(48, 1_500);
             let settings = Settings { bits, target: target as u32, minimum, maximum: minimum + noise.below(5_000) };
-            let (cuts, list) = whole(settings, &log);
-            assert_eq!(blocks(settings, log.chunks(noise.between(1_000, 5_000) as usize)), cuts);
+            let cuts = whole(settings, &log);
+            assert_eq!(in_blocks(settings, log.chunks(noise.between(1_000, 5_000) as usize)), cuts);
             let size = noise.between(3_000, 6_000);
             let room = 2 + size;
             let mut board = vec![0; (12_000_u64.div_ceil(size) * room) as usize];
             for (index, bay) in board.chunks_mut(room as usize).enumerate() {
                 bay.copy_from_slice(&compare::record(settings, &log, size, index as u64, bay).1);
             }
-            let (outcome, merged) = compare::merge(settings, 12_000, size, room, &board, &list);
-            assert_eq!((outcome.number, &merged[..outcome.count as usize]), (0, &cuts[..]));
-            let at = noise.below(12_000);
-            compare::amend(settings, &cuts, [at, 0, 0], &log, &list);
+            assert_eq!(merged(settings, 12_000, size, room, &board), cuts);
+            assert_eq!(amended(settings, &cuts, [noise.below(12_000), 0, 0], &log).1, cuts);
         }
     }
 }
@@ -171,23 +134,15 @@ fn longer_log() -> Vec<u8> {
 #[test]
 fn a_longer_log_every_way() {
     let (settings, log) = (Settings::HOUSE, longer_log());
-    let n = log.len() as u64;
-    let (cuts, list) = whole(settings, &log);
+    let cuts = whole(settings, &log);
     assert!(cuts.len() > 20);
-    assert_eq!(blocks(settings, log.chunks(65_536)), cuts);
-    assert_eq!(blocks(settings, log.chunks(1_000)), cuts);
-    let (size, room) = (100_000, 300);
-    let mut board = vec![0; (n.div_ceil(size) * room) as usize];
-    for index in 0..n.div_ceil(size) {
-        board = compare::segment(settings, &log, size, room, index, &board).1;
-    }
-    let (outcome, merged) = compare::merge(settings, n, size, room, &board, &list);
-    assert_eq!((outcome.number, &merged[..outcome.count as usize]), (0, &cuts[..]));
+    assert_eq!(in_blocks(settings, log.chunks(65_536)), cuts);
+    assert_eq!(in_blocks(settings, log.chunks(1_000)), cuts);
+    assert_eq!(in_segments(settings, &log, 100_000), cuts);
     let mut edited = log.clone();
     edited.splice(200_000..200_010, [5; 40]);
-    let list = vec![7; inputs::room(&settings, edited.len() as u64)];
-    let (answer, _) = compare::amend(settings, &cuts, [200_000, 10, 40], &edited, &list);
-    assert!(answer.number == 0 && answer.front > 5 && answer.back > 5);
+    let (answer, _) = amended(settings, &cuts, [200_000, 10, 40], &edited);
+    assert!(answer.front > 5 && answer.back > 5);
 }
 
 /// The wrapper gives what the calls give.
@@ -197,7 +152,7 @@ fn the_wrapper_every_way() {
     for _ in 0..200 {
         let settings = inputs::tight_settings(&mut noise);
         let log = inputs::log(&mut noise, &settings, 64);
-        let (cuts, _) = whole(settings, &log);
+        let cuts = whole(settings, &log);
         assert_eq!(thrunglow::cut_log(settings, &log), Ok(cuts.clone()));
         assert_eq!(thrunglow::cut_parallel(settings, &log, 2.try_into().unwrap()), Ok(cuts.clone()));
         let mut cutter = thrunglow::Cutter::new(settings).unwrap();
@@ -211,7 +166,7 @@ fn the_wrapper_every_way() {
         assert_eq!(found, cuts);
         let edited = [&log[..], &[1]].concat();
         let amended = thrunglow::amend(settings, &cuts, Edit { at: log.len() as u64, removed: 0, added: 1 }, &edited);
-        assert_eq!(amended.unwrap().cuts, whole(settings, &edited).0);
+        assert_eq!(amended.unwrap().cuts, whole(settings, &edited));
         let sheet = Sheet { settings, label: Label::Live, cuts };
         assert_eq!(Sheet::read(&sheet.to_bytes().unwrap(), Label::Live), Ok(sheet));
     }

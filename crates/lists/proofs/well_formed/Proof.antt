@@ -20,10 +20,14 @@ unfolding wellFormed
 loop-holds c = (search needs, refl)
 
 returns : tie.Need-returns Inv-loop μ-loop
-returns c = sym (c .before .before .before .before .loop .inv .1 ∙ step-refused _ _ _ _ _ _ (c .before .before .before .loop-test .taken) (c .before .step-fits .ensures) (not-true _ (c .if1 .taken)))
+returns c =
+    let turn = c .before .before .before in
+    sym (turn .before .loop .inv .1 ∙ step-refused _ _ _ _ _ _ (turn .loop-test .taken) (c .before .step-fits .ensures) (not-true _ (c .if1 .taken)))
 
 loop-again : tie.Need-loop-again Inv-loop μ-loop
-loop-again c = (search needs, c .before .before .before .before .loop .inv .1 ∙ step-passed _ _ _ _ _ _ (c .before .before .before .loop-test .taken) (c .before .step-fits .ensures) (not-false _ (c .if1 .left)))
+loop-again c =
+    let turn = c .before .before .before in
+    (search needs, turn .before .loop .inv .1 ∙ step-passed _ _ _ _ _ _ (turn .loop-test .taken) (c .before .step-fits .ensures) (not-false _ (c .if1 .left)))
 
 returns-2 : tie.Need-returns-2 Inv-loop μ-loop
 returns-2 c = sym (c .before .before .loop .inv .1 ∙ steps-end _ _ _ _ _ (c .before .loop-test .left) ∙ lt-leb _ _ (c .if2 .taken))

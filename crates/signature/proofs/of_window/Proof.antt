@@ -12,10 +12,10 @@ use Rattle.signature.proofs.of_window.Statement.{statement}
 use Rattle.signature.proofs.of_window.Tie as tie
 
 abbrev Inv-loop : tie.InvT-loop
-Inv-loop bytes at pushed signature₀ i₀ signature i = (i ≤ 48) × (signature ≡ signatureOf (take i (drop at bytes)))
+Inv-loop bytes at tables signature₀ i₀ signature i = (i ≤ 48) × (signature ≡ signatureOf (take i (drop at bytes)))
 
 abbrev μ-loop : tie.MeasureT-loop
-μ-loop bytes at pushed signature₀ i₀ signature i = 48 - i
+μ-loop bytes at tables signature₀ i₀ signature i = 48 - i
 
 loop-holds : tie.Need-loop-holds Inv-loop μ-loop
 unfolding signatureOf sign number rem

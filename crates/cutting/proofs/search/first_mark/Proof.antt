@@ -11,10 +11,11 @@ sub-of-window : tie.Need-sub-of-window
 sub-of-window c = omega (arith, c .before .before .pre)
 
 of-window-requires : tie.Need-of-window-requires
-of-window-requires c κs = (omega (arith, c .before .before .pre), c .before .before .pre .1 .1 .1)
+of-window-requires c κs = (omega (arith, c .before .before .pre), c .before .before .pre .1 .1)
 
 seek-requires : tie.Need-seek-requires
-seek-requires c κs = (c .before .before .before .pre .0, ((c .before .before .before .pre .1 .0 .0, c .before .if1 .left, c .before .before .before .pre .1 .0 .1, c .of-window .ensures), c .before .before .before .pre .1 .1))
+seek-requires c κs =
+    let asked = c .before .before .before .pre in (asked .0, ((asked .1 .0 .0, c .before .if1 .left, asked .1 .0 .1, c .of-window .ensures), asked .1 .1))
 
 returns-2 : tie.Need-returns-2
 returns-2 c = first-sought _ _ (c .seek .result) (c .seek .ensures)

@@ -6,19 +6,19 @@ use Rattle.cutting.proofs.search.next_cut.Statement.{statement}
 use Rattle.cutting.proofs.search.next_cut.Tie as tie
 
 add-first : tie.Need-add-first
-add-first c = omega (arith, ranges _ (c .before .pre .0) .bounded, ranges _ (c .before .pre .0) .ordered, c .before .pre .1 .0, c .before .good)
+add-first c = let known = ranges _ (c .before .pre .0) in omega (arith, known .bounded, known .ordered, c .before .pre .1 .0, c .before .good)
 
 add-smaller : tie.Need-add-smaller
 add-smaller c = omega (arith, ranges _ (c .before .pre .0) .bounded, c .before .pre .1 .0, c .before .good)
 
-smaller-requires : tie.Need-smaller-requires
-smaller-requires c κs = tt
-
 first-mark-requires : tie.Need-first-mark-requires
-first-mark-requires c κs = (c .before .before .pre .0, ((omega (arith, ranges _ (c .before .before .pre .0) .window-fits), omega (arith, c .smaller .ensures)), c .before .before .pre .1 .1))
+first-mark-requires c κs =
+    let asked = c .before .before .pre in
+    let known = ranges _ (asked .0) in
+    (known .few-bits, ((omega (arith, known .window-fits), omega (arith, c .smaller .ensures)), asked .1 .1))
 
 returns : tie.Need-returns
 returns c = searched _ _ _ _ _ (c .before .smaller .ensures) (c .first-mark .ensures)
 
 pub next-cut-spec : {M : Type 1} → statement M
-next-cut-spec = tie.close (tie.spec add-first add-smaller smaller-requires first-mark-requires returns)
+next-cut-spec = tie.close (tie.spec add-first add-smaller (λ c κs. tt) first-mark-requires returns)

@@ -64,11 +64,29 @@ returns-6 c =
 
 returns-7 : tie.Need-returns-7
 unfolding inRange
-returns-7 c = simp (le-leb _ _ (c .before .before .before .before .before .before .if1 .left), le-leb _ _ (c .before .before .before .before .before .if2 .left), le-leb _ _ (c .before .before .before .before .if3 .left), le-leb _ _ (small-enough _ _ (c .before .before .before .if4 .left)), le-leb _ _ (c .before .before .if5 .left), le-leb _ _ (c .before .if6 .left), lt-leb _ _ (c .if7 .taken))
+returns-7 c =
+    simp (
+      le-leb _ _ (c .before .before .before .before .before .before .if1 .left),
+      le-leb _ _ (c .before .before .before .before .before .if2 .left),
+      le-leb _ _ (c .before .before .before .before .if3 .left),
+      le-leb _ _ (small-enough _ _ (c .before .before .before .if4 .left)),
+      le-leb _ _ (c .before .before .if5 .left),
+      le-leb _ _ (c .before .if6 .left),
+      lt-leb _ _ (c .if7 .taken),
+    )
 
 returns-8 : tie.Need-returns-8
 unfolding inRange
-returns-8 c = simp (le-leb _ _ (c .before .before .before .before .before .before .if1 .left), le-leb _ _ (c .before .before .before .before .before .if2 .left), le-leb _ _ (c .before .before .before .before .if3 .left), le-leb _ _ (small-enough _ _ (c .before .before .before .if4 .left)), le-leb _ _ (c .before .before .if5 .left), le-leb _ _ (c .before .if6 .left), le-leb _ _ (c .if7 .left))
+returns-8 c =
+    simp (
+      le-leb _ _ (c .before .before .before .before .before .before .if1 .left),
+      le-leb _ _ (c .before .before .before .before .before .if2 .left),
+      le-leb _ _ (c .before .before .before .before .if3 .left),
+      le-leb _ _ (small-enough _ _ (c .before .before .before .if4 .left)),
+      le-leb _ _ (c .before .before .if5 .left),
+      le-leb _ _ (c .before .if6 .left),
+      le-leb _ _ (c .if7 .left),
+    )
 
 pub in-range-spec : {M : Type 1} → statement M
 in-range-spec =
