@@ -87,16 +87,16 @@ thrunglow_Passed thrunglow_close(thrunglow_Carry carry, uint64_t *list, size_t l
 /* The whole log. The list has room for log_length / minimum + 1 entries. */
 thrunglow_Outcome thrunglow_cut_log(thrunglow_Settings settings, const uint8_t *log, size_t log_length, uint64_t *list, size_t list_length);
 
-/* Segment `index` of `size` bytes (64 to 16,777,216), recorded into its bay: `room` entries (2 or more) from board[index * room] on. The
+/* Segment `index` of `size` bytes (64 to 16,777,216), recorded into its bay: `width` entries (2 or more) from board[index * width] on. The
  * board has a bay for each segment, log_length / size of them, rounded up. On number 6 the bay's first two entries are 0, which is
  * "not done", and the others hold the record's first offsets. */
-thrunglow_Outcome thrunglow_segment(thrunglow_Settings settings, const uint8_t *log, size_t log_length, uint64_t size, uint64_t room, uint64_t index, uint64_t *board, size_t board_length);
+thrunglow_Outcome thrunglow_segment(thrunglow_Settings settings, const uint8_t *log, size_t log_length, uint64_t size, uint64_t width, uint64_t index, uint64_t *board, size_t board_length);
 
-/* The same with one bay lent by itself, so that each thread has its own; its room is bay_length. */
+/* The same with one bay lent by itself, so that each thread has its own; its width is bay_length. */
 thrunglow_Outcome thrunglow_record(thrunglow_Settings settings, const uint8_t *log, size_t log_length, uint64_t size, uint64_t index, uint64_t *bay, size_t bay_length);
 
 /* The list of a log of `bytes` bytes from its board. The list has room for bytes / minimum + 1 entries. */
-thrunglow_Outcome thrunglow_merge(thrunglow_Settings settings, uint64_t bytes, uint64_t size, uint64_t room, const uint64_t *board, size_t board_length, uint64_t *list, size_t list_length);
+thrunglow_Outcome thrunglow_merge(thrunglow_Settings settings, uint64_t bytes, uint64_t size, uint64_t width, const uint64_t *board, size_t board_length, uint64_t *list, size_t list_length);
 
 /* The list of the log that came of replacing `removed` bytes at `at` by `added` bytes, from the old log's list. The list has room
  * for log_length / minimum + 1 entries. */

@@ -64,12 +64,13 @@ module _ (settings : Settings) {edit : Edit} {log log′ : List ℕ} (r : Replac
   afresh : inRange settings ≡ true → amendedList (newCutsOf settings log′) (cutList settings log) edit ≡ cutList settings log′
   afresh ok =
       let in-range = ranges settings ok in
-      amended-by-marks (mark settings log) (mark settings log′) (settings .minimum) (settings .maximum) (length log) (length log′) edit (in-range .window-fits) (in-range .ordered)
-      (r .inside) (r .ends)
+      amended-by-marks (mark settings log) (mark settings log′) (settings .minimum) (settings .maximum) (length log) (length log′) edit
+      (in-range .window-fits) (in-range .ordered) (r .inside) (r .ends)
       (λ q h. by-lt q 48
       (λ short. mark-low settings log q short ∙ sym (mark-low settings log′ q short))
       (λ far. marks-by-bytes settings log log′ q q far (omega arith) far (omega arith) (λ i k. r .low (q - 48 + i) (omega arith))))
-      (λ q q′ far inside place. marks-by-bytes settings log log′ q q′ (omega arith) inside (omega arith) (omega arith) (λ i k. r .high (q - 48 + i) (q′ - 48 + i) (omega arith) (omega arith)))
+      (λ q q′ far inside place. marks-by-bytes settings log log′ q q′ (omega arith) inside (omega arith) (omega arith)
+      (λ i k. r .high (q - 48 + i) (q′ - 48 + i) (omega arith) (omega arith)))
 
   module _ (list : List ℕ) (short : length log ≤ longest) where
     -- amending is refused where cutting afresh is, by the same row

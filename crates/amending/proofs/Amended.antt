@@ -65,4 +65,5 @@ module _ (mark mark′ : ℕ → Bool) (lo hi n n′ : ℕ) (edit : Edit) (windo
   amended-by-marks =
       amended-list (next mark lo hi n) (next mark′ lo hi n′) n n′ edit (rising mark lo hi n (omega arith) order) (rising mark′ lo hi n′ (omega arith) order) inside ends
       (λ x b low below. next-again mark mark′ lo hi n n′ x (omega arith) (λ is. absurd (omega arith)) (λ q far near. fronts q (omega arith)))
-      (λ x x′ far b place. next-moves mark mark′ lo hi n n′ (edit .removed) (edit .added) ends x x′ place (λ y long short fits. backs (x + y) (x′ + y) (omega arith) fits (omega arith)))
+      (λ x x′ far b place. next-moves mark mark′ lo hi n n′ (edit .removed) (edit .added) ends x x′ place
+      (λ y long short fits. backs (x + y) (x′ + y) (omega arith) fits (omega arith)))

@@ -80,8 +80,8 @@ module _ (lo hi n′ : ℕ) (edit : Edit) (newCuts : ℕ → List ℕ) (reach : 
   new-length = reaches-last amended-reaches
 
   -- without a meeting the new end would not be the old end, moved
-  ends-meet : {c e : ℕ} {past news r b : List ℕ} → Recut edit past n′ news r b e → 0 < length past → 0 < length news → Reaches lo hi (lengthOf old) c past → Reaches lo hi n′ c news
-      → 0 < length b
+  ends-meet : {c e : ℕ} {past news r b : List ℕ} → Recut edit past n′ news r b e → 0 < length past → 0 < length news
+      → Reaches lo hi (lengthOf old) c past → Reaches lo hi n′ c news → 0 < length b
   ends-meet (meeting t x later passed rest is unmet far was place) some-old some-new old-run new-run = omega arith
   ends-meet {c} (no-meeting unmet) some-old some-new old-run new-run =
       absurd (every-last c (rw (reaches-last new-run) at (every-last c unmet some-new) (omega arith)) some-old (rw (reaches-last old-run) ends))

@@ -2,8 +2,6 @@
 pub mod Split
 -- the front of an old list
 pub mod Front
--- a new cut that meets, and the old cut it meets
-pub mod Meets
 -- the test of an edit
 pub mod Fitting
 -- lists read and written place by place

@@ -13,7 +13,7 @@ use Rattle.amending.specs.declared.edits.Edit.{Edit}
 use Rattle.amending.specs.Parts.{until, from, wasAt, meets, moved, backFrom}
 use Rattle.amending.specs.Inner.{Ascends, Recutted}
 use Rattle.amending.proofs.Split.{nowhere, here, later, split, until-is, from-is}
-use Rattle.amending.proofs.Meets.{placed}
+use Rattle.amending.proofs.Told.{placed}
 use Rattle.amending.proofs.Looking.{Looked, ascends-after, first-least}
 
 -- the new cuts after c

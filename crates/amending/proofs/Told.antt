@@ -1,19 +1,20 @@
--- The parts are what document 01 says: the front of a well-formed list; the recut up to the first new cut that meets, and the back from there.
+-- The parts are what document 01 says: the front of a well-formed list; the recut up to the first new cut that meets, and the back from there,
+-- which begins with the old cut it meets.
 use Prim.Native.Nat.{ℕ, _+_, _≤_, _<_}
 use mathlib.Core.Path.{_≡_, refl, sym, _∙_, subst}
 use mathlib.Core.Bool.{true, false, not}
-use mathlib.Core.List.{List, [], _∷_, append-nil}
+use mathlib.Core.List.{List, [], _∷_, append-nil, _++_}
 use native.Mathlib.Omega.{arith}
-use borrow.Author.Tests.{eqb-false, le-leb}
-use Rattle.laws.proofs.Cases.{impossible}
+use borrow.Author.Tests.{eqb-false, le-leb, leb-true, eqb-true}
+use Rattle.laws.proofs.Cases.{impossible, both-true}
+use lib.Dec.{leb}
 use Rattle.lists.specs.WellFormed.{isEmpty, wellFormed, lengthOf}
 use Rattle.lists.proofs.Reaching.{Reaches, there, step, reaches, reaches-long}
 use Rattle.amending.specs.declared.edits.Edit.{Edit}
 use Rattle.amending.specs.Parts.{front, pastFront, restart, until, from, wasAt, meets, backFrom, firstOr}
 use Rattle.amending.specs.Told.{Every, none, also, FrontTold, NoMeeting, Recut, meeting, no-meeting}
-use Rattle.amending.proofs.Split.{Split, split, joined, heads, each-until}
+use Rattle.amending.proofs.Split.{Split, split, joined, heads, each-until, from-is}
 use Rattle.amending.proofs.Front.{Front, none-old, old-end, beyond, kept, front-is, front-joined}
-use Rattle.amending.proofs.Meets.{placed}
 
 every-so : {P Q : ℕ → Type 0} {l : List ℕ} → ((x : ℕ) → P x → Q x) → Every P l → Every Q l
 every-so so none = none
@@ -44,6 +45,22 @@ unfolding wellFormed lengthOf restart
 front-told lo hi s old ok =
     let r = reaches lo hi 0 old ok .0 in
     record { whole = front-joined (front-is s old); low = front-low (front-is s old) r; high = past-high (front-is s old) r; restarts = refl }
+
+-- the old cut x, with rest after it, stood where t is, which lies at or past the change's end
+pub record Placed (edit : Edit) (past : List ℕ) (t x : ℕ) (rest : List ℕ) : Type 0 where
+  pub far : edit .at + edit .added ≤ t
+  pub place : x + edit .added ≡ t + edit .removed
+  pub whole : until (wasAt edit t) past ++ (x ∷ rest) ≡ past
+  pub onward : from (wasAt edit t) past ≡ x ∷ rest
+
+pub placed : (edit : Edit) (past : List ℕ) (t : ℕ) → meets edit past t ≡ true → (x : ℕ) × (rest : List ℕ) × Placed edit past t x rest
+placed edit past t h = found (from (wasAt edit t) past) (split (wasAt edit t) past) (unfold meets in both-true h)
+  where
+    found : (k : List ℕ) → Split (wasAt edit t) past (until (wasAt edit t) past) k → (leb (edit .at + edit .added) t ≡ true) × (not (isEmpty k) ≡ true)
+        → (x : ℕ) × (rest : List ℕ) × Placed edit past t x rest
+    found [] parts both = impossible (unfold isEmpty in cc)
+    found (x ∷ k) parts both =
+        (x, k, record { far = leb-true _ _ (both .0); place = unfold wasAt in eqb-true _ _ (heads parts); whole = joined parts; onward = from-is (wasAt edit t) parts })
 
 module _ (edit : Edit) (past : List ℕ) where
   not-at : (t x : ℕ) → wasAt edit t x ≡ false → x + edit .added ≡ t + edit .removed → ⊥

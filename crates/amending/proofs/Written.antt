@@ -18,13 +18,13 @@ use Rattle.amending.specs.declared.edits.Edit.{Edit}
 use Rattle.amending.specs.declared.Amendment.the-variants.{Amended, Refused}
 use Rattle.amending.specs.Parts.{frontCount, front, pastFront, restart, shifted, moved, recut, back, amendedList}
 use Rattle.terms.specs.Rows.{verdict}
-use Rattle.amending.specs.Answers.{editFits, partsAnswer}
-use Rattle.amending.specs.Inner.{Ascends, Movable, Recutted}
+use Rattle.amending.specs.Answers.{editFits}
+use Rattle.amending.specs.Inner.{Ascends, Movable, Recutted, partsAnswer}
 use Rattle.amending.proofs.Fitting.{edit-told}
 use Rattle.amending.proofs.Front.{count-fits}
 
 -- what a well-formed list and an edit that fits it allow: every sum stays far below 64 bits
-pub record Sound (old : List ℕ) (edit : Edit) (bytes : ℕ) : Type 0 where
+pub record Sound (old : List ℕ) (edit : Edit) : Type 0 where
   pub rises : Ascends old
   pub low : (i : ℕ) → getD old i 0 ≤ 2 ^ 40
   pub few : length old ≤ 2 ^ 40
@@ -32,7 +32,7 @@ pub record Sound (old : List ℕ) (edit : Edit) (bytes : ℕ) : Type 0 where
   pub taken-low : edit .removed ≤ 2 ^ 40
 
 pub sound : (lo hi : ℕ) (old : List ℕ) (edit : Edit) (bytes : ℕ) → wellFormed lo hi old ≡ true → editFits (lengthOf old) edit bytes ≡ true → bytes ≤ 2 ^ 40
-    → Sound old edit bytes
+    → Sound old edit
 unfolding wellFormed lengthOf
 sound lo hi old edit bytes ok fits short =
     let (reach, n-low) = reaches lo hi 0 old ok in
@@ -45,7 +45,7 @@ sound lo hi old edit bytes ok fits short =
       taken-low = omega arith;
     }
 
-module _ {old : List ℕ} {edit : Edit} {bytes : ℕ} (fine : Sound old edit bytes) where
+module _ {old : List ℕ} {edit : Edit} (fine : Sound old edit) where
   -- the front is copied as it is; the back can be moved
   pub front-movable : (kept : ℕ) → Movable 0 0 (take kept old)
   front-movable kept i h =

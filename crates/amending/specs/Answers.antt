@@ -45,13 +45,9 @@ newCutsOf settings log c = cutsFrom (mark settings log) (settings .minimum) (set
 unfoldable pub editFits : (n : ℕ) (edit : Edit) (bytes : ℕ) → Bool
 editFits n edit bytes = leb (edit .at) n && (leb (edit .removed) (n - edit .at) && eqb bytes (n - edit .removed + edit .added))
 
--- the counts of the three parts
+-- a success
 abbrev pub counts : (newCuts : ℕ → List ℕ) (old : List ℕ) (edit : Edit) → Amendment
 counts newCuts old edit = Amended (length (front (edit .at) old)) (length (recut newCuts old edit)) (length (back newCuts old edit))
-
--- writing the three parts into a list with so many places: their counts, or the guard
-unfoldable pub partsAnswer : (newCuts : ℕ → List ℕ) (old : List ℕ) (edit : Edit) (room : ℕ) → Amendment
-partsAnswer newCuts old edit room = ruled (verdict (guard (amendedList newCuts old edit) room ∷ [])) Refused (counts newCuts old edit)
 
 -- 1, 10, 11, 2, 5, and the guard
 unfoldable pub amendRows : (settings : Settings) (old : List ℕ) (edit : Edit) (log : List ℕ) (room : ℕ) → List Row
@@ -64,9 +60,11 @@ amendRows settings old edit log room =
     ∷ guard (amendedList (newCutsOf settings log) old edit) room
     ∷ []
 
+-- the counts of the three parts
 unfoldable pub amendAnswer : (settings : Settings) (old : List ℕ) (edit : Edit) (log : List ℕ) (room : ℕ) → Amendment
 amendAnswer settings old edit log room = ruled (verdict (amendRows settings old edit log room)) Refused (counts (newCutsOf settings log) old edit)
 
+-- the list at exit
 unfoldable pub amendLeaves : (settings : Settings) (old : List ℕ) (edit : Edit) (log list : List ℕ) → List ℕ
 amendLeaves settings old edit log list =
     leaves (verdict (amendRows settings old edit log (length list))) ListFull list (writtenList (amendedList (newCutsOf settings log) old edit) list)

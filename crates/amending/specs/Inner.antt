@@ -2,12 +2,17 @@
 use Prim.Native.Nat.{ℕ, _+_, _-_, _≤_, _<_, _^_}
 use mathlib.Core.Path.{_≡_}
 use mathlib.Core.Bool.{true, false}
-use mathlib.Core.List.{List, map}
+use mathlib.Core.List.{List, [], _∷_, map}
 use lib.Dec.{leb}
 use lib.ListN.{length, getD, drop}
 use lib.Seq.{sets}
+use Rattle.terms.specs.Rows.{verdict, ruled}
+use Rattle.lists.specs.Written.{guard}
 use Rattle.amending.specs.declared.edits.Edit.{Edit}
-use Rattle.amending.specs.Parts.{until, from, meets, moved, backFrom}
+use Rattle.amending.specs.declared.Amendment.{Amendment}
+use Rattle.amending.specs.declared.Amendment.the-variants.{Refused}
+use Rattle.amending.specs.Parts.{until, from, meets, moved, backFrom, amendedList}
+use Rattle.amending.specs.Answers.{counts}
 
 -- the entries rise
 abbrev pub Ascends : (l : List ℕ) → Type 0
@@ -34,3 +39,7 @@ pub record Recutted (edit : Edit) (bytes : ℕ) (past news : List ℕ) (kept : �
   pub within : passed ≤ length past
   pub onward : backFrom edit past (from (meets edit past) news) ≡ map (moved edit) (drop passed past)
   pub movable : (i : ℕ) → i < length (drop passed past) → edit .removed ≤ getD (drop passed past) i 0 + edit .added
+
+-- writing the three parts into a list with so many places: their counts, or the guard
+unfoldable pub partsAnswer : (newCuts : ℕ → List ℕ) (old : List ℕ) (edit : Edit) (room : ℕ) → Amendment
+partsAnswer newCuts old edit room = ruled (verdict (guard (amendedList newCuts old edit) room ∷ [])) Refused (counts newCuts old edit)

@@ -8,7 +8,8 @@ ghost use Rattle.terms.specs.Answers.{longest};
 ghost use Rattle.lists.specs.WellFormed.{wellFormed, lengthOf};
 ghost use Rattle.lists.specs.Written.{writtenList};
 ghost use Rattle.amending.specs.Parts.{amendedList};
-ghost use Rattle.amending.specs.Answers.{newCutsOf, editFits, partsAnswer, amendAnswer, amendLeaves};
+ghost use Rattle.amending.specs.Answers.{newCutsOf, editFits, amendAnswer, amendLeaves};
+ghost use Rattle.amending.specs.Inner.{partsAnswer};
 
 pub mod edits;
 mod meeting;

@@ -19,7 +19,8 @@ use Rattle.board_bays.specs.Bays.{Record, entries}
 use Rattle.terms.specs.Answers.{longest}
 use Rattle.terms.specs.Rows.{verdict}
 use Rattle.board_bays.specs.Segments.{segments, shapeFits, boardFits, bayFits, segmentFits, There}
-use Rattle.board.specs.Recording.{recordFits, recordAnswer, recorded, withBay}
+use Rattle.board.specs.Recording.{recordFits, recorded, withBay}
+use Rattle.board.specs.Inner.{filledAnswer}
 use Rattle.board_record.specs.Stretches.{Records}
 use Rattle.laws.proofs.Sets.{sets-written}
 use Rattle.laws.proofs.Slices.{rest-from}
@@ -48,9 +49,9 @@ module _ (r : Record) (rec : Recorded) (bay part : List ℕ) (wide : 2 ≤ lengt
           ap (λ (l : List ℕ). x ∷ y ∷ l) (ap (λ (l : List ℕ). part ++ l) none ∙ append-nil part)
 
   pub record-fitted : rec .count ≤ length bay - 2
-      → (Wrote (rec .count + 2) ≡ recordAnswer r (length bay))
+      → (Wrote (rec .count + 2) ≡ filledAnswer r (length bay))
       × (set (set (take 2 bay ++ (part ++ drop (length bay - 2) (drop 2 bay))) 0 (rec .count + 1)) 1 (rec .marker) ≡ recorded r bay)
-  unfolding recordAnswer verdict recordFits recorded over entries
+  unfolding filledAnswer verdict recordFits recorded over entries
   record-fitted h =
       let fits : length (r .offsets) ≤ length bay - 2 = omega (arith, count-is) in
       let n : rec .count + 1 ≡ suc (length (r .offsets)) = omega (arith, count-is) in
@@ -62,9 +63,9 @@ module _ (r : Record) (rec : Recorded) (bay part : List ℕ) (wide : 2 ≤ lengt
       )
 
   pub record-long : length bay - 2 < rec .count
-      → (Refused RecordTooLong ≡ recordAnswer r (length bay))
+      → (Refused RecordTooLong ≡ filledAnswer r (length bay))
       × (set (set (take 2 bay ++ (part ++ drop (length bay - 2) (drop 2 bay))) 0 0) 1 0 ≡ recorded r bay)
-  unfolding recordAnswer verdict recordFits recorded
+  unfolding filledAnswer verdict recordFits recorded
   record-long h =
       let long : length bay - 2 < length (r .offsets) = omega (arith, count-is) in
       let filled : length (drop 2 bay) ≡ length (take (length bay - 2) (r .offsets)) = rw (length-drop, length-take) (omega arith) in (
@@ -73,38 +74,38 @@ module _ (r : Record) (rec : Recorded) (bay part : List ℕ) (wide : 2 ≤ lengt
       )
 
 -- a granted call's segment is there
-there-by : (size width n i : ℕ) → shapeFits size width ≡ true → n ≤ longest → ltb i (segments size n) ≡ true → There size n i × (2 ≤ width)
-there-by size width n i shape short exists =
+there-by : (n size width i : ℕ) → shapeFits size width ≡ true → n ≤ longest → ltb i (segments n size) ≡ true → There n size i × (2 ≤ width)
+there-by n size width i shape short exists =
     let z = sizes size width shape in
     (record { large = z .0; bounded = z .1; short = short; there = ltb-true _ _ exists }, z .2)
 
-pub bay-there : (size width n i : ℕ) → n ≤ longest → bayFits size width n i ≡ true → There size n i × (2 ≤ width)
+pub bay-there : (n size width i : ℕ) → n ≤ longest → bayFits n size width i ≡ true → There n size i × (2 ≤ width)
 unfolding bayFits
-bay-there size width n i short t = let f = both-true t in there-by size width n i (f .0) short (f .1)
+bay-there n size width i short t = let f = both-true t in there-by n size width i (f .0) short (f .1)
 
-pub segment-there : (size width n i numbers : ℕ) → n ≤ longest → segmentFits size width n i numbers ≡ true → There size n i × (2 ≤ width) × (i * width + width ≤ numbers)
+pub segment-there : (n size width i numbers : ℕ) → n ≤ longest → segmentFits n size width i numbers ≡ true → There n size i × (2 ≤ width) × (i * width + width ≤ numbers)
 unfolding segmentFits boardFits
-segment-there size width n i numbers short t =
+segment-there n size width i numbers short t =
     let f = both-true t in
     let b = both-true (f .0) in
-    let there = there-by size width n i (b .0) short (f .1) in
-    (there .0, there .1, bay-inside (segments size n) width i numbers (there .0 .there) (leb-true _ _ (b .1)))
+    let there = there-by n size width i (b .0) short (f .1) in
+    (there .0, there .1, bay-inside (segments n size) width i numbers (there .0 .there) (leb-true _ _ (b .1)))
 
 -- a bay as it was lent, and put back into its board
 module _ (width i : ℕ) (board : List ℕ) (fits : i * width + width ≤ length board) where
   lent-long : length (take (i * width + width - i * width) (drop (i * width) board)) ≡ width
-  lent-long = ap length (bay-lent width board i) ∙ length-bay width board i fits
+  lent-long = ap length (bay-lent width i board) ∙ length-bay width i board fits
 
   pub lent-wide : 2 ≤ width → 2 ≤ length (take (i * width + width - i * width) (drop (i * width) board))
   lent-wide wide = rw lent-long wide
 
-  pub lent-answer : (r : Record) → recordAnswer r (length (take (i * width + width - i * width) (drop (i * width) board))) ≡ recordAnswer r width
-  lent-answer r = ap (recordAnswer r) lent-long
+  pub lent-answer : (r : Record) → filledAnswer r (length (take (i * width + width - i * width) (drop (i * width) board))) ≡ filledAnswer r width
+  lent-answer r = ap (filledAnswer r) lent-long
 
 pub put-back : (r : Record) (width i : ℕ) (board : List ℕ) {part : List ℕ} → part ≡ recorded r (take (i * width + width - i * width) (drop (i * width) board))
-    → take (i * width) board ++ (part ++ drop (i * width + width - i * width) (drop (i * width) board)) ≡ withBay width i (recorded r (bayOf width board i)) board
+    → take (i * width) board ++ (part ++ drop (i * width + width - i * width) (drop (i * width) board)) ≡ withBay width i (recorded r (bayOf width i board)) board
 unfolding withBay
 put-back r width i board q =
     let same : i * width + width - i * width ≡ width = omega arith in
-    ap₂ (λ (x y : List ℕ). take (i * width) board ++ (x ++ y)) (q ∙ ap (recorded r) (bay-lent width board i))
+    ap₂ (λ (x y : List ℕ). take (i * width) board ++ (x ++ y)) (q ∙ ap (recorded r) (bay-lent width i board))
     (ap (λ (j : ℕ). drop j (drop (i * width) board)) same ∙ drop-drop width (i * width) board)

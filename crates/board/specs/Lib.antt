@@ -1,2 +1,3 @@
-pub mod Merging
 pub mod Recording
+pub mod Merging
+pub mod Inner

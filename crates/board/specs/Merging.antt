@@ -9,22 +9,22 @@ use Rattle.terms.specs.declared.Answer.{Answer}
 use Rattle.terms.specs.declared.Answer.the-variants.{Wrote, Refused}
 use Rattle.terms.specs.Answers.{roomFor}
 use Rattle.terms.specs.Rows.{Row, row, verdict, ruled, leaves}
-use Rattle.cutting.specs.WholeLog.{guard, writtenList}
+use Rattle.lists.specs.Written.{guard, writtenList}
 use Rattle.board_bays.specs.Judging.{callRows, baysRows}
 use Rattle.board_walk.specs.Walk.{boardWalk}
 use Rattle.board_bays.specs.Segments.{segments, boardFits}
 
 -- 1, 2, 7, 5, then bays from the lowest, 8 before 9, and the guard
-unfoldable pub mergeRows : Settings → ℕ → ℕ → ℕ → List ℕ → ℕ → List Row
-mergeRows s n size width board room =
-    callRows s n (boardFits size width n (length board))
-    ++ (row RoomTooShort (ltb room (roomFor (s .minimum) n))
-    ∷ (baysRows s size width n board (segments size n) 0
-    ++ (guard (boardWalk s n size width board) room ∷ [])))
+unfoldable pub mergeRows : (settings : Settings) (n size width : ℕ) (board : List ℕ) (room : ℕ) → List Row
+mergeRows settings n size width board room =
+    callRows settings n (boardFits n size width (length board))
+    ++ (row RoomTooShort (ltb room (roomFor (settings .minimum) n))
+    ∷ (baysRows settings n size width board (segments n size) 0
+    ++ (guard (boardWalk settings n size width board) room ∷ [])))
 
-unfoldable pub mergeAnswer : Settings → ℕ → ℕ → ℕ → List ℕ → ℕ → Answer
-mergeAnswer s n size width board room = ruled (verdict (mergeRows s n size width board room)) Refused (Wrote (length (boardWalk s n size width board)))
+unfoldable pub mergeAnswer : (settings : Settings) (n size width : ℕ) (board : List ℕ) (room : ℕ) → Answer
+mergeAnswer settings n size width board room = ruled (verdict (mergeRows settings n size width board room)) Refused (Wrote (length (boardWalk settings n size width board)))
 
-unfoldable pub mergeList : Settings → ℕ → ℕ → ℕ → List ℕ → List ℕ → List ℕ
-mergeList s n size width board list =
-    leaves (verdict (mergeRows s n size width board (length list))) ListFull list (writtenList (boardWalk s n size width board) list)
+unfoldable pub mergeLeaves : (settings : Settings) (n size width : ℕ) (board list : List ℕ) → List ℕ
+mergeLeaves settings n size width board list =
+    leaves (verdict (mergeRows settings n size width board (length list))) ListFull list (writtenList (boardWalk settings n size width board) list)

@@ -30,15 +30,15 @@ module _ (width numbers count given : ℕ) (wide : 2 ≤ width) (e : given ≡ c
   too-few h = by-lt numbers (count * width) (λ k. k) (λ k. absurd (omega (arith, le-div-iff-mul-le {k = width} {x = count} {y = numbers} (omega arith) .1 k)))
 
 -- what a board that fits says
-pub record BoardShape (size width n numbers : ℕ) : Type 0 where
+pub record BoardShape (n size width numbers : ℕ) : Type 0 where
   pub large : 64 ≤ size
   pub bounded : size ≤ 2 ^ 24
   pub wide : 2 ≤ width
-  pub enough : segments size n * width ≤ numbers
+  pub enough : segments n size * width ≤ numbers
 
-pub board-shape : (size width n numbers : ℕ) → boardFits size width n numbers ≡ true → BoardShape size width n numbers
+pub board-shape : (n size width numbers : ℕ) → boardFits n size width numbers ≡ true → BoardShape n size width numbers
 unfolding boardFits
-board-shape size width n numbers t =
+board-shape n size width numbers t =
     let all = both-true t in
     let shape = sizes size width (all .0) in
     record { large = shape .0; bounded = shape .1; wide = shape .2; enough = leb-true _ _ (all .1) }
@@ -47,46 +47,46 @@ board-shape size width n numbers t =
 pub bay-inside : (k width i numbers : ℕ) → i < k → k * width ≤ numbers → i * width + width ≤ numbers
 bay-inside k width i numbers h enough = omega (arith, mul-le-mul-right width h, suc-mul i width)
 
-pub bay-within : {size width n numbers : ℕ} → BoardShape size width n numbers → (i count : ℕ) → count ≡ segments size n → i < count
+pub bay-within : {n size width numbers : ℕ} → BoardShape n size width numbers → (i count : ℕ) → count ≡ segments n size → i < count
     → i * width + width ≤ numbers
-bay-within {size} {width} {n} {numbers} shape i count e h = bay-inside (segments size n) width i numbers (omega arith) (shape .enough)
+bay-within {n} {size} {width} {numbers} shape i count e h = bay-inside (segments n size) width i numbers (omega arith) (shape .enough)
 
 -- where the segments before segment i end
-unfoldable pub reach : ℕ → ℕ → ℕ → ℕ
-reach size n i = min (i * size) n
+unfoldable pub reach : (n size i : ℕ) → ℕ
+reach n size i = min (i * size) n
 
-pub reach-within : (size n i : ℕ) → reach size n i ≤ n
+pub reach-within : (n size i : ℕ) → reach n size i ≤ n
 unfolding reach
-reach-within size n i = omega arith
+reach-within n size i = omega arith
 
-module _ (size n : ℕ) (positive : 0 < size) where
-  pub starts : (i : ℕ) → i < segments size n → segmentStart size i < n
+module _ (n size : ℕ) (positive : 0 < size) where
+  pub starts : (i : ℕ) → i < segments n size → segmentStart size i < n
   unfolding segments segmentStart
   starts i h = let below : suc i * size ≤ n + (size - 1) = le-div-iff-mul-le positive .0 h in omega (arith, suc-mul i size)
 
   -- the same as the code multiplies
-  pub begins-below : (i : ℕ) → i < segments size n → i * size < n
+  pub begins-below : (i : ℕ) → i < segments n size → i * size < n
   unfolding segmentStart
   begins-below i h = starts i h
 
-  pub from-reach : (i : ℕ) → i < segments size n → segmentStart size i ≡ reach size n i
+  pub from-reach : (i : ℕ) → i < segments n size → segmentStart size i ≡ reach n size i
   unfolding segmentStart reach
   from-reach i h = let below : i * size < n = starts i h in omega arith
 
-  pub to-reach : (i : ℕ) → segmentEnd size n i ≡ reach size n (suc i)
+  pub to-reach : (i : ℕ) → segmentEnd n size i ≡ reach n size (suc i)
   unfolding segmentEnd reach
   to-reach i = ap (λ x. min x n) (sym (suc-mul i size))
 
-  pub reach-none : reach size n 0 ≡ 0
+  pub reach-none : reach n size 0 ≡ 0
   unfolding reach
   reach-none = omega (arith, zero-mul size)
 
-  pub reach-all : reach size n (segments size n) ≡ n
+  pub reach-all : reach n size (segments n size) ≡ n
   unfolding reach segments
   reach-all = let over : n + (size - 1) < (n + (size - 1)) / size * size + size = lt-div-mul-add positive in omega arith
 
   -- a segment is not empty, and lies within the log
-  pub spans : (i : ℕ) → i < segments size n → (segmentStart size i < segmentEnd size n i) × (segmentEnd size n i ≤ n)
+  pub spans : (i : ℕ) → i < segments n size → (segmentStart size i < segmentEnd n size i) × (segmentEnd n size i ≤ n)
   unfolding segmentStart segmentEnd
   spans i h = let below : i * size < n = starts i h in omega arith
 
@@ -94,13 +94,13 @@ module _ (size n : ℕ) (positive : 0 < size) where
   one-times-more k = rw add-one (suc-mul k size)
 
   -- rounded up, as the code rounds
-  pub exactly : n % size ≡ 0 → n / size ≡ segments size n
+  pub exactly : n % size ≡ 0 → n / size ≡ segments n size
   unfolding segments
   exactly e =
       let parts = div-add-mod' n size in
       sym (div-eq-of-lt-le size (omega arith) (omega (arith, one-times-more (n / size))))
 
-  pub rounded : (n % size ≡ 0 → ⊥) → n / size + 1 ≡ segments size n
+  pub rounded : (n % size ≡ 0 → ⊥) → n / size + 1 ≡ segments n size
   unfolding segments
   rounded ne =
       let parts = div-add-mod' n size in
@@ -109,11 +109,11 @@ module _ (size n : ℕ) (positive : 0 < size) where
       sym (div-eq-of-lt-le size (omega (arith, one-times-more (n / size))) (omega (arith, one-times-more (n / size), one-times-more (n / size + 1))))
 
 -- bay i as the code lends it
-pub bay-lent : (width : ℕ) (board : List ℕ) (i : ℕ) → take (i * width + width - i * width) (drop (i * width) board) ≡ bayOf width board i
+pub bay-lent : (width i : ℕ) (board : List ℕ) → take (i * width + width - i * width) (drop (i * width) board) ≡ bayOf width i board
 unfolding bayOf
-bay-lent width board i = part-lent board (i * width) width
+bay-lent width i board = part-lent board (i * width) width
 
 -- which has all its numbers
-pub length-bay : (width : ℕ) (board : List ℕ) (i : ℕ) → i * width + width ≤ length board → length (bayOf width board i) ≡ width
+pub length-bay : (width i : ℕ) (board : List ℕ) → i * width + width ≤ length board → length (bayOf width i board) ≡ width
 unfolding bayOf
-length-bay width board i h = rw (length-take, length-drop) (omega arith)
+length-bay width i board h = rw (length-take, length-drop) (omega arith)

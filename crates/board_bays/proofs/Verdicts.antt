@@ -36,38 +36,38 @@ pub came : (s : Settings) (n : ℕ) {v w : Verdict} {asked fits : Bool} → v �
 came s n told fit e = sym (told ∙ ap (λ t. verdict (callRows s n t)) fit) ∙ e
 
 -- rows 8 and 9 of a bay
-pub record Judged (s : Settings) (size n i : ℕ) (bay : List ℕ) : Type 0 where
+pub record Judged (s : Settings) (n size i : ℕ) (bay : List ℕ) : Type 0 where
   pub done : isDone bay ≡ true
   pub few : offsetCount bay ≤ length bay - 2
-  pub rises : risesWithin (segmentStart size i) (segmentEnd size n i) (recordIn bay .offsets) ≡ true
+  pub rises : risesWithin (segmentStart size i) (segmentEnd n size i) (recordIn bay .offsets) ≡ true
   pub fits : markerFits (s .minimum) (s .maximum) i (recordIn bay) ≡ true
 
-sound-bay : (s : Settings) (size n i : ℕ) (bay : List ℕ) → isDone bay ≡ true → isSound (s .minimum) (s .maximum) size n i bay ≡ true → Judged s size n i bay
+sound-bay : (s : Settings) (n size i : ℕ) (bay : List ℕ) → isDone bay ≡ true → isSound s n size i bay ≡ true → Judged s n size i bay
 unfolding isSound
-sound-bay s size n i bay d t =
+sound-bay s n size i bay d t =
     let a = both-true t in
     let b = both-true (a .1) in
     record { done = d; few = leb-true _ _ (a .0); rises = b .0; fits = b .1 }
 
-pub done-bay : (s : Settings) (size n i : ℕ) (bay : List ℕ) → verdict (bayRows s size n i bay) ≡ Fine → Judged s size n i bay
+pub done-bay : (s : Settings) (n size i : ℕ) (bay : List ℕ) → verdict (bayRows s n size i bay) ≡ Fine → Judged s n size i bay
 unfolding bayRows
-done-bay s size n i bay v =
+done-bay s n size i bay v =
     let a = clear _ _ _ v in
-    sound-bay s size n i bay (not-false _ (a .0)) (not-false _ (clear _ _ _ (a .1) .0))
+    sound-bay s n size i bay (not-false _ (a .0)) (not-false _ (clear _ _ _ (a .1) .0))
 
 -- of each bay among those from bay i on
-module _ (s : Settings) (size width n : ℕ) (board : List ℕ) where
-  pub plain-bays : (k i : ℕ) → lacks ListFull (baysRows s size width n board k i) ≡ true
+module _ (s : Settings) (n size width : ℕ) (board : List ℕ) where
+  pub plain-bays : (k i : ℕ) → lacks ListFull (baysRows s n size width board k i) ≡ true
   unfolding lacks baysRows bayRows
   plain-bays zero i = refl
   plain-bays (suc k) i = plain-bays k (suc i)
 
-  pub each-done : (k i j : ℕ) → j < k → verdict (baysRows s size width n board k i) ≡ Fine → Judged s size n (i + j) (bayOf width board (i + j))
+  pub each-done : (k i j : ℕ) → j < k → verdict (baysRows s n size width board k i) ≡ Fine → Judged s n size (i + j) (bayOf width (i + j) board)
   unfolding baysRows
   each-done zero i j h v = absurd (omega arith)
   each-done (suc k) i zero h v =
       let here : i + 0 ≡ i = omega arith in
-      rw here (done-bay s size n i (bayOf width board i) (both-clear (bayRows s size n i (bayOf width board i)) (baysRows s size width n board k (suc i)) v .0))
+      rw here (done-bay s n size i (bayOf width i board) (both-clear (bayRows s n size i (bayOf width i board)) (baysRows s n size width board k (suc i)) v .0))
   each-done (suc k) i (suc j) h v =
       let there : i + suc j ≡ suc i + j = omega arith in
-      rw there (each-done k (suc i) j (omega arith) (both-clear (bayRows s size n i (bayOf width board i)) (baysRows s size width n board k (suc i)) v .1))
+      rw there (each-done k (suc i) j (omega arith) (both-clear (bayRows s n size i (bayOf width i board)) (baysRows s n size width board k (suc i)) v .1))

@@ -11,14 +11,14 @@ use Rattle.terms.specs.Rows.{Row, row}
 use Rattle.board_bays.specs.Bays.{bayOf, isDone, isSound}
 
 -- 1, 2 and 7, the last given as what it asks
-unfoldable pub callRows : Settings → ℕ → Bool → List Row
-callRows s n fits = row SettingsOutOfRange (not (inRange s)) ∷ row LogTooLong (ltb longest n) ∷ row NoSuchSegment (not fits) ∷ []
+unfoldable pub callRows : (settings : Settings) (n : ℕ) (fits : Bool) → List Row
+callRows settings n fits = row SettingsOutOfRange (not (inRange settings)) ∷ row LogTooLong (ltb longest n) ∷ row NoSuchSegment (not fits) ∷ []
 
 -- 8 and 9 for bay i
-unfoldable pub bayRows : Settings → ℕ → ℕ → ℕ → List ℕ → List Row
-bayRows s size n i bay = row BayNotDone (not (isDone bay)) ∷ row BayMalformed (not (isSound (s .minimum) (s .maximum) size n i bay)) ∷ []
+unfoldable pub bayRows : (settings : Settings) (n size i : ℕ) (bay : List ℕ) → List Row
+bayRows settings n size i bay = row BayNotDone (not (isDone bay)) ∷ row BayMalformed (not (isSound settings n size i bay)) ∷ []
 
 -- the same for the k bays from bay i on, from the lowest
-unfoldable pub baysRows : Settings → ℕ → ℕ → ℕ → List ℕ → ℕ → ℕ → List Row
-baysRows s size width n board zero i = []
-baysRows s size width n board (suc k) i = bayRows s size n i (bayOf width board i) ++ baysRows s size width n board k (suc i)
+unfoldable pub baysRows : (settings : Settings) (n size width : ℕ) (board : List ℕ) (k i : ℕ) → List Row
+baysRows settings n size width board zero i = []
+baysRows settings n size width board (suc k) i = bayRows settings n size i (bayOf width i board) ++ baysRows settings n size width board k (suc i)

@@ -4,40 +4,40 @@ use mathlib.Core.Bool.{Bool, _&&_}
 use lib.Dec.{leb, ltb}
 
 -- a segment size is 64 to 16,777,216
-unfoldable pub sizeInRange : ℕ → Bool
+unfoldable pub sizeInRange : (size : ℕ) → Bool
 sizeInRange size = leb 64 size && leb size 16_777_216
 
 -- there are n/S segments, rounded up
-unfoldable pub segments : ℕ → ℕ → ℕ
-segments size n = (n + (size - 1)) / size
+unfoldable pub segments : (n size : ℕ) → ℕ
+segments n size = (n + (size - 1)) / size
 
 -- segment i covers the offsets above this one
-unfoldable pub segmentStart : ℕ → ℕ → ℕ
+unfoldable pub segmentStart : (size i : ℕ) → ℕ
 segmentStart size i = i * size
 
 -- and up to this one: the smaller of (i + 1) * S and n
-unfoldable pub segmentEnd : ℕ → ℕ → ℕ → ℕ
-segmentEnd size n i = min (i * size + size) n
+unfoldable pub segmentEnd : (n size i : ℕ) → ℕ
+segmentEnd n size i = min (i * size + size) n
 
 -- R is at least 2
-unfoldable pub shapeFits : ℕ → ℕ → Bool
+unfoldable pub shapeFits : (size width : ℕ) → Bool
 shapeFits size width = sizeInRange size && leb 2 width
 
 -- and a board of so many numbers is as long as the bays
-unfoldable pub boardFits : ℕ → ℕ → ℕ → ℕ → Bool
-boardFits size width n numbers = shapeFits size width && leb (segments size n * width) numbers
+unfoldable pub boardFits : (n size width numbers : ℕ) → Bool
+boardFits n size width numbers = shapeFits size width && leb (segments n size * width) numbers
 
 -- or there is such a segment
-unfoldable pub bayFits : ℕ → ℕ → ℕ → ℕ → Bool
-bayFits size width n i = shapeFits size width && ltb i (segments size n)
+unfoldable pub bayFits : (n size width i : ℕ) → Bool
+bayFits n size width i = shapeFits size width && ltb i (segments n size)
 
 -- or both
-unfoldable pub segmentFits : ℕ → ℕ → ℕ → ℕ → ℕ → Bool
-segmentFits size width n i numbers = boardFits size width n numbers && ltb i (segments size n)
+unfoldable pub segmentFits : (n size width i numbers : ℕ) → Bool
+segmentFits n size width i numbers = boardFits n size width numbers && ltb i (segments n size)
 
 -- segment i is there, in a log and at a size within their bounds
-pub record There (size n i : ℕ) : Type 0 where
+pub record There (n size i : ℕ) : Type 0 where
   pub large : 64 ≤ size
   pub bounded : size ≤ 2 ^ 24
   pub short : n ≤ 2 ^ 40
-  pub there : i < segments size n
+  pub there : i < segments n size

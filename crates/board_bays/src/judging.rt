@@ -75,47 +75,47 @@ fn marker_fits(offsets: &[u64], marker: u64, i: u64, minimum: u64, maximum: u64)
 }
 
 // Whether bay i, which is done, is not malformed. The caller sees that the segment is there.
-fn is_sound(settings: Settings, size: u64, n: u64, i: u64, bay: &[u64]) -> bool
-    requires { ⌜ There size n i ⌝ }
+fn is_sound(settings: Settings, n: u64, size: u64, i: u64, bay: &[u64]) -> bool
+    requires { ⌜ There n size i ⌝ }
     requires { ⌜ (2 ≤ length (now bay)) × (isDone (now bay) ≡ true) ⌝ }
-    ensures { λ r. ⌜ r ≡ isSound (settings .minimum) (settings .maximum) size n i (now (bay .entry)) ⌝ }
+    ensures { λ r. ⌜ r ≡ isSound settings n size i (now (bay .entry)) ⌝ }
 {
     if bay[0] - 1 > bay.len() as u64 - 2 {
         return false;
     }
     let start = i * size;
     let offsets = super::reading::offsets_in(bay);
-    if !rises_within(offsets, start, super::shapes::end_of(start, size, n)) {
+    if !rises_within(offsets, start, super::shapes::end_of(n, start, size)) {
         return false;
     }
     marker_fits(offsets, bay[1], i, settings.minimum, settings.maximum)
 }
 
 // Rows 8 and 9 for one bay.
-fn judge_bay(settings: Settings, size: u64, n: u64, i: u64, bay: &[u64]) -> Verdict
-    requires { ⌜ There size n i ⌝ }
+fn judge_bay(settings: Settings, n: u64, size: u64, i: u64, bay: &[u64]) -> Verdict
+    requires { ⌜ There n size i ⌝ }
     requires { ⌜ 2 ≤ length (now bay) ⌝ }
-    ensures { λ r. ⌜ r ≡ verdict (bayRows settings size n i (now (bay .entry))) ⌝ }
+    ensures { λ r. ⌜ r ≡ verdict (bayRows settings n size i (now (bay .entry))) ⌝ }
 {
     if bay[0] == 0 {
         return Verdict::Wrong(Refusal::BayNotDone);
     }
-    if !is_sound(settings, size, n, i, bay) {
+    if !is_sound(settings, n, size, i, bay) {
         return Verdict::Wrong(Refusal::BayMalformed);
     }
     Verdict::Fine
 }
 
 // Rows 8 and 9 for all bays, from the lowest.
-pub fn judge_bays(settings: Settings, size: u64, width: u64, n: u64, board: &[u64]) -> Verdict
-    requires { ⌜ (n ≤ 2 ^ 40) × (boardFits size width n (length (now board)) ≡ true) ⌝ }
-    ensures { λ r. ⌜ r ≡ verdict (baysRows settings size width n (now (board .entry)) (segments size n) 0) ⌝ }
+pub fn judge_bays(settings: Settings, n: u64, size: u64, width: u64, board: &[u64]) -> Verdict
+    requires { ⌜ (n ≤ 2 ^ 40) × (boardFits n size width (length (now board)) ≡ true) ⌝ }
+    ensures { λ r. ⌜ r ≡ verdict (baysRows settings n size width (now (board .entry)) (segments n size) 0) ⌝ }
 {
-    let count = super::shapes::segments_of(size, n);
+    let count = super::shapes::segments_of(n, size);
     let mut i = 0;
     while i < count {
-        let bay = super::reading::bay_at(board, width, i);
-        match judge_bay(settings, size, n, i, bay) {
+        let bay = super::reading::bay_at(width, i, board);
+        match judge_bay(settings, n, size, i, bay) {
             Verdict::Wrong(why) => return Verdict::Wrong(why),
             Verdict::Fine => {}
         }

@@ -6,9 +6,9 @@ ghost use lib.ListN.{length};
 ghost use Rattle.board_bays.specs.Bays.{bayOf, isDone, offsetCount, recordIn};
 
 // Bay i of a board of bays of so many numbers.
-pub fn bay_at<'a>(board: &'a [u64], width: u64, i: u64) -> &'a [u64]
+pub fn bay_at<'a>(width: u64, i: u64, board: &'a [u64]) -> &'a [u64]
     requires { ⌜ i * width + width ≤ length (now board) ⌝ }
-    ensures { λ r. ⌜ now r ≡ bayOf width (now (board .entry)) i ⌝ }
+    ensures { λ r. ⌜ now r ≡ bayOf width i (now (board .entry)) ⌝ }
 {
     let start = (i * width) as usize;
     &board[start..start + width as usize]

@@ -9,9 +9,9 @@ use terms::Settings;
 use terms::Verdict;
 
 // How many segments a log has.
-pub fn segments_of(size: u64, n: u64) -> u64
+pub fn segments_of(n: u64, size: u64) -> u64
     requires { ⌜ 64 ≤ size ⌝ }
-    ensures { λ r. ⌜ r ≡ segments size n ⌝ }
+    ensures { λ r. ⌜ r ≡ segments n size ⌝ }
 {
     let whole = n / size;
     if n % size == 0 {
@@ -21,7 +21,7 @@ pub fn segments_of(size: u64, n: u64) -> u64
 }
 
 // Where so many bytes from an offset on end, in a log of n bytes: a segment, or a piece.
-pub fn end_of(start: u64, size: u64, n: u64) -> u64
+pub fn end_of(n: u64, start: u64, size: u64) -> u64
     requires { ⌜ (start ≤ n) × (n ≤ 2 ^ 40) × (size ≤ 2 ^ 24) ⌝ }
     ensures { λ r. ⌜ r ≡ min (start + size) n ⌝ }
 {
@@ -44,37 +44,37 @@ pub fn shape_fits(size: u64, width: u64) -> bool
     true
 }
 
-pub fn board_fits(size: u64, width: u64, n: u64, numbers: u64) -> bool
-    ensures { λ r. ⌜ r ≡ boardFits size width n numbers ⌝ }
+pub fn board_fits(n: u64, size: u64, width: u64, numbers: u64) -> bool
+    ensures { λ r. ⌜ r ≡ boardFits n size width numbers ⌝ }
 {
     if !shape_fits(size, width) {
         return false;
     }
-    if numbers / width < segments_of(size, n) {
+    if numbers / width < segments_of(n, size) {
         return false;
     }
     true
 }
 
-pub fn bay_fits(size: u64, width: u64, n: u64, i: u64) -> bool
-    ensures { λ r. ⌜ r ≡ bayFits size width n i ⌝ }
+pub fn bay_fits(n: u64, size: u64, width: u64, i: u64) -> bool
+    ensures { λ r. ⌜ r ≡ bayFits n size width i ⌝ }
 {
     if !shape_fits(size, width) {
         return false;
     }
-    if i >= segments_of(size, n) {
+    if i >= segments_of(n, size) {
         return false;
     }
     true
 }
 
-pub fn segment_fits(size: u64, width: u64, n: u64, i: u64, numbers: u64) -> bool
-    ensures { λ r. ⌜ r ≡ segmentFits size width n i numbers ⌝ }
+pub fn segment_fits(n: u64, size: u64, width: u64, i: u64, numbers: u64) -> bool
+    ensures { λ r. ⌜ r ≡ segmentFits n size width i numbers ⌝ }
 {
-    if !board_fits(size, width, n, numbers) {
+    if !board_fits(n, size, width, numbers) {
         return false;
     }
-    if i >= segments_of(size, n) {
+    if i >= segments_of(n, size) {
         return false;
     }
     true

@@ -16,9 +16,10 @@ use Rattle.terms.specs.declared.Settings.{Settings}
 use Rattle.terms.specs.declared.Verdict.the-variants.{Fine}
 use Rattle.terms.specs.Rows.{verdict}
 use Rattle.terms.proofs.Verdicts.{top, past, reached}
+use Rattle.cutting.specs.Marks.{mark}
 use Rattle.board_bays.specs.Segments.{segments, segmentStart, segmentEnd}
 use Rattle.board_bays.specs.Bays.{Record, bayOf, isSound, offsetCount, risesWithin, isListed, followers, stepsWithin, fromMarker, markerFits, Holds}
-use Rattle.board_record.specs.Records.{slowRecord, recordAfter, isMarker, prepend, segmentRecord}
+use Rattle.board_record.specs.Records.{slowRecord, recordAfter, isMarker, prepend, segmentRecord, segmentOf}
 use Rattle.board_bays.specs.Judging.{bayRows, baysRows}
 use Rattle.board_record.proofs.Marking.{Marks, none-left, then-mark, marks-in}
 use Rattle.board_bays.proofs.Ranges.{spans}
@@ -88,44 +89,48 @@ module _ (mark : ℕ → Bool) (lo hi : ℕ) (positive : 0 < lo) (order : lo ≤
   fits-slow (then-mark b {l = marks} above inside m u r) =
       fits-on b (recordAfter mark lo hi e b marks) (marker-later mark lo hi e b (omega arith) (omega arith) r) ∙ fits-after r
 
-module _ (mark : ℕ → Bool) (lo hi : ℕ) (positive : 0 < lo) (order : lo ≤ hi) (size n : ℕ) (sized : 0 < size) where
-  rises-record : (i : ℕ) → i < segments size n
-      → risesWithin (segmentStart size i) (segmentEnd size n i) (segmentRecord mark lo hi size n i .offsets) ≡ true
+module _ (mark : ℕ → Bool) (lo hi : ℕ) (positive : 0 < lo) (order : lo ≤ hi) (n size : ℕ) (sized : 0 < size) where
+  rises-record : (i : ℕ) → i < segments n size
+      → risesWithin (segmentStart size i) (segmentEnd n size i) (segmentRecord mark lo hi n size i .offsets) ≡ true
   unfolding segmentRecord
   rises-record zero h =
       let start : segmentStart size 0 ≡ 0 = unfold segmentStart in zero-mul size in
-      rw start (rises-cuts mark lo hi positive order (segmentEnd size n 0) 0)
+      rw start (rises-cuts mark lo hi positive order (segmentEnd n size 0) 0)
   rises-record (suc i) h =
-      let e : ℕ = segmentEnd size n (suc i) in
-      let span = spans size n sized (suc i) h in
+      let e : ℕ = segmentEnd n size (suc i) in
+      let span = spans n size sized (suc i) h in
       rises-slow mark lo hi positive order e (marks-in mark e (segmentStart size (suc i)) (omega arith))
 
-  fits-record : (i : ℕ) → i < segments size n → markerFits lo hi i (segmentRecord mark lo hi size n i) ≡ true
+  fits-record : (i : ℕ) → i < segments n size → markerFits lo hi i (segmentRecord mark lo hi n size i) ≡ true
   unfolding segmentRecord markerFits
-  fits-record zero h = steps-cuts mark lo hi positive order (segmentEnd size n 0) 0
+  fits-record zero h = steps-cuts mark lo hi positive order (segmentEnd n size 0) 0
   fits-record (suc i) h =
-      let e : ℕ = segmentEnd size n (suc i) in
-      let span = spans size n sized (suc i) h in
+      let e : ℕ = segmentEnd n size (suc i) in
+      let span = spans n size sized (suc i) h in
       unfold fits in fits-slow mark lo hi positive order e (marks-in mark e (segmentStart size (suc i)) (omega arith))
 
-  sound : (i : ℕ) → i < segments size n → (bay : List ℕ) → Holds bay (segmentRecord mark lo hi size n i) → isSound lo hi size n i bay ≡ true
+-- a board whose bays hold their segments' records is accepted
+module _ (s : Settings) (positive : 0 < s .minimum) (order : s .minimum ≤ s .maximum) (log : List ℕ) (size : ℕ) (sized : 0 < size) where
+  sound : (i : ℕ) → i < segments (length log) size → (bay : List ℕ) → Holds bay (segmentOf s log size i) → isSound s (length log) size i bay ≡ true
   unfolding isSound
   sound i h bay held =
-      let r : Record = segmentRecord mark lo hi size n i in
-      rw (read-back bay r held, le-leb (offsetCount bay) (length bay - 2) (room bay r held), rises-record i h, fits-record i h)
+      let r : Record = segmentOf s log size i in
+      rw (
+        read-back bay r held,
+        le-leb (offsetCount bay) (length bay - 2) (room bay r held),
+        rises-record (mark s log) (s .minimum) (s .maximum) positive order (length log) size sized i h,
+        fits-record (mark s log) (s .minimum) (s .maximum) positive order (length log) size sized i h,
+      )
 
--- a board whose bays hold their segments' records is accepted
-module _ (s : Settings) (mark : ℕ → Bool) (positive : 0 < s .minimum) (order : s .minimum ≤ s .maximum) (size n : ℕ) (sized : 0 < size)
-    (width : ℕ) (board : List ℕ)
-    (held : (i : ℕ) → i < segments size n → Holds (bayOf width board i) (segmentRecord mark (s .minimum) (s .maximum) size n i)) where
-  from-bay : (k i : ℕ) → i + k ≡ segments size n → verdict (baysRows s size width n board k i) ≡ Fine
-  unfolding baysRows bayRows
-  from-bay zero i count = unfold verdict in refl
-  from-bay (suc k) i count =
-      let here : i < segments size n = omega arith in
-      let bay : List ℕ = bayOf width board i in
-      reached (past (ap not (done bay _ (held i here))) (past (ap not (sound mark (s .minimum) (s .maximum) positive order size n sized i here bay (held i here))) top))
-      ∙ from-bay k (suc i) (omega arith)
+  module _ (width : ℕ) (board : List ℕ) (held : (i : ℕ) → i < segments (length log) size → Holds (bayOf width i board) (segmentOf s log size i)) where
+    from-bay : (k i : ℕ) → i + k ≡ segments (length log) size → verdict (baysRows s (length log) size width board k i) ≡ Fine
+    unfolding baysRows bayRows
+    from-bay zero i count = unfold verdict in refl
+    from-bay (suc k) i count =
+        let here : i < segments (length log) size = omega arith in
+        let bay : List ℕ = bayOf width i board in
+        reached (past (ap not (done bay _ (held i here))) (past (ap not (sound i here bay (held i here))) top))
+        ∙ from-bay k (suc i) (omega arith)
 
-  pub true-bays-accepted : verdict (baysRows s size width n board (segments size n) 0) ≡ Fine
-  true-bays-accepted = from-bay (segments size n) 0 (omega arith)
+    pub true-bays-accepted : verdict (baysRows s (length log) size width board (segments (length log) size) 0) ≡ Fine
+    true-bays-accepted = from-bay (segments (length log) size) 0 (omega arith)

@@ -87,7 +87,7 @@ module _ (mark : ℕ → Bool) (lo hi : ℕ) (positive : 0 < lo) (order : lo ≤
       (record { hopped = forced-hops e u (forced-up-to hi (omega arith) e c); reached = s .1; clear = λ q x y. u q (omega arith) y }, s .2)
 
   -- an offset p that is the next mark is read
-  read-offset : (c p : ℕ) → c < p → mark p ≡ true → Unmarked mark (c + lo) p
+  pub read-offset : (c p : ℕ) → c < p → mark p ≡ true → Unmarked mark (c + lo) p
       → (m : ℕ) × Walked mark lo hi c p (readOffset lo hi c p) m × (p < m + lo)
   read-offset c p above marked free =
       let f = forced-walk c (p - 1) (omega arith) (λ q x y. free q x (omega arith)) in

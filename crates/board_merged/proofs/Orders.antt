@@ -1,7 +1,7 @@
 -- Segment calls in any order: a call changes no other bay, so that a permutation of the calls gives the same board, and what all of them leave is a true board.
 use Prim.Native.Nat.{ℕ, _+_, _-_, _*_, _≤_, _<_}
 use mathlib.Core.Path.{_≡_, refl, sym, ap, ap₂, _∙_}
-use mathlib.Core.Bool.{Bool, true}
+use mathlib.Core.Bool.{true}
 use mathlib.Core.List.{List, [], _∷_, append-assoc, List·Permᴰ, List·Permᴰ·nil, List·Permᴰ·cons, List·Permᴰ·swap, List·Permᴰ·trans, List·Memᴰ, List·Memᴰ·head, List·Memᴰ·tail}
 use mathlib.Core.Logic.{_⊎_, inl, inr}
 use native.Mathlib.Nat.{mul-le-mul-right, suc-mul}
@@ -23,7 +23,7 @@ use Rattle.board_bays.specs.Segments.{segments, segmentFits}
 use Rattle.board_bays.specs.Bays.{Record, entries, bayOf, Holds}
 use Rattle.board_record.specs.Records.{segmentOf}
 use Rattle.board_bays.specs.Judging.{callRows}
-use Rattle.board.specs.Recording.{recordFits, recorded, withBay, segmentRows, segmentBoard, recordAll}
+use Rattle.board.specs.Recording.{recordFits, recorded, withBay, segmentRows, segmentLeaves, recordAll}
 use Rattle.board_bays.proofs.Verdicts.{passed, plain-call}
 use Rattle.board_bays.proofs.Ranges.{bay-inside, length-bay, BoardShape, board-shape}
 use Rattle.laws.proofs.Sets.{sets-commute, part-same, part-other}
@@ -50,43 +50,43 @@ bays-apart width i j h k other =
     (λ less. inl (omega (arith, mul-le-mul-right width less, suc-mul i width)))
     (λ more. by-lt j i (λ less. inr (omega (arith, mul-le-mul-right width less, suc-mul j width))) (λ same. absurd (other (omega arith))))
 
-module _ (mark : ℕ → Bool) (s : Settings) (n size width : ℕ) where
+module _ (s : Settings) (log : List ℕ) (size width : ℕ) where
   abbrev call : ℕ → List ℕ → List ℕ
-  call i board = segmentBoard mark s n size i width board
+  call i board = segmentLeaves s log size width i board
 
   abbrev shape : ℕ → ℕ → Verdict
-  shape i numbers = verdict (callRows s n (segmentFits size width n i numbers))
+  shape i numbers = verdict (callRows s (length log) (segmentFits (length log) size width i numbers))
 
   -- what a call on a board of so many numbers stores into its bay: nothing where it is refused
   storing : ℕ → ℕ → List ℕ → List ℕ
-  storing i numbers bay = ruled (shape i numbers) (λ _. []) (recorded (segmentOf mark s n size i) bay)
+  storing i numbers bay = ruled (shape i numbers) (λ _. []) (recorded (segmentOf s log size i) bay)
 
   abbrev stores : ℕ → List ℕ → List ℕ
-  stores i board = storing i (length board) (bayOf width board i)
+  stores i board = storing i (length board) (bayOf width i board)
 
   module _ (i : ℕ) (board : List ℕ) (v : shape i (length board) ≡ Fine) where
-    shaped : BoardShape size width n (length board) × (i < segments size n)
+    shaped : BoardShape (length log) size width (length board) × (i < segments (length log) size)
     unfolding segmentFits
-    shaped = let all = both-true (passed s n _ v .2) in (board-shape size width n (length board) (all .0), ltb-true _ _ (all .1))
+    shaped = let all = both-true (passed s (length log) _ v .2) in (board-shape (length log) size width (length board) (all .0), ltb-true _ _ (all .1))
 
     inside : i * width + width ≤ length board
-    inside = bay-inside (segments size n) width i (length board) (shaped .1) (shaped .0 .enough)
+    inside = bay-inside (segments (length log) size) width i (length board) (shaped .1) (shaped .0 .enough)
 
-    bay-long : length (bayOf width board i) ≡ width
-    bay-long = length-bay width board i inside
+    bay-long : length (bayOf width i board) ≡ width
+    bay-long = length-bay width i board inside
 
-    stores-record : stores i board ≡ recorded (segmentOf mark s n size i) (bayOf width board i)
+    stores-record : stores i board ≡ recorded (segmentOf s log size i) (bayOf width i board)
     unfolding storing
     stores-record = rw v
 
     stores-all : length (stores i board) ≡ width
-    stores-all = ap length stores-record ∙ length-recorded (segmentOf mark s n size i) (bayOf width board i) (rw bay-long (shaped .0 .wide)) ∙ bay-long
+    stores-all = ap length stores-record ∙ length-recorded (segmentOf s log size i) (bayOf width i board) (rw bay-long (shaped .0 .wide)) ∙ bay-long
 
   -- rows 1, 2 and 7 alone say whether the bay is written: 6 writes it too
   call-by : (i : ℕ) (board : List ℕ)
-      → call i board ≡ ruled (shape i (length board)) (λ _. board) (withBay width i (recorded (segmentOf mark s n size i) (bayOf width board i)) board)
-  unfolding segmentBoard segmentRows
-  call-by i board = left-by RecordTooLong (callRows s n (segmentFits size width n i (length board))) _ board _ (plain-call s n _ .0)
+      → call i board ≡ ruled (shape i (length board)) (λ _. board) (withBay width i (recorded (segmentOf s log size i) (bayOf width i board)) board)
+  unfolding segmentLeaves segmentRows
+  call-by i board = left-by RecordTooLong (callRows s (length log) (segmentFits (length log) size width i (length board))) _ board _ (plain-call s (length log) _ .0)
 
   -- every call is a run of stores into its bay
   call-stores : (i : ℕ) (board : List ℕ) → call i board ≡ sets board (i * width) (stores i board)
@@ -108,18 +108,18 @@ module _ (mark : ℕ → Bool) (s : Settings) (n size width : ℕ) where
   length-call i board = ap length (call-stores i board) ∙ length-sets board (i * width) (stores i board)
 
   -- a call that is not refused leaves the record in its own bay
-  pub own-written : (i : ℕ) (board : List ℕ) → verdict (callRows s n (segmentFits size width n i (length board))) ≡ Fine
-      → (bayOf width (segmentBoard mark s n size i width board) i ≡ recorded (segmentOf mark s n size i) (bayOf width board i))
-      × (length (bayOf width board i) ≡ width)
+  pub own-written : (i : ℕ) (board : List ℕ) → verdict (callRows s (length log) (segmentFits (length log) size width i (length board))) ≡ Fine
+      → (bayOf width i (segmentLeaves s log size width i board) ≡ recorded (segmentOf s log size i) (bayOf width i board))
+      × (length (bayOf width i board) ≡ width)
   own-written i board v =
       let all = stores-all i board v in
-      let own : bayOf width (call i board) i ≡ stores i board =
+      let own : bayOf width i (call i board) ≡ stores i board =
       unfold bayOf in (ap (λ (b : List ℕ). take width (drop (i * width) b)) (call-stores i board)
       ∙ rw all at (part-same board (i * width) (stores i board) (rw all (inside i board v)))) in
       (own ∙ stores-record i board v, bay-long i board v)
 
   -- and changes no other bay
-  pub other-kept : (i j : ℕ) (board : List ℕ) → (i ≡ j → ⊥) → bayOf width (segmentBoard mark s n size i width board) j ≡ bayOf width board j
+  pub other-kept : (i j : ℕ) (board : List ℕ) → (i ≡ j → ⊥) → bayOf width j (segmentLeaves s log size width i board) ≡ bayOf width j board
   unfolding bayOf
   other-kept i j board other =
       ap (λ (b : List ℕ). take width (drop (j * width) b)) (call-stores i board)
@@ -143,26 +143,26 @@ module _ (mark : ℕ → Bool) (s : Settings) (n size width : ℕ) where
       ∙ sym (both-stores j i board (λ e. other (sym e))))
 
   -- segment calls in any order of a permutation give the same board
-  pub any-order : {is js : List ℕ} → List·Permᴰ is js → (board : List ℕ) → recordAll mark s n size width is board ≡ recordAll mark s n size width js board
+  pub any-order : {is js : List ℕ} → List·Permᴰ is js → (board : List ℕ) → recordAll s log size width is board ≡ recordAll s log size width js board
   unfolding recordAll
   any-order List·Permᴰ·nil board = refl
   any-order (List·Permᴰ·cons {a = i} {b = j} {l₂ = js} e p) board =
-      any-order p (call i board) ∙ ap (λ (x : ℕ). recordAll mark s n size width js (call x board)) e
+      any-order p (call i board) ∙ ap (λ (x : ℕ). recordAll s log size width js (call x board)) e
   any-order (List·Permᴰ·swap {a = i} {b = j} {l = l} e f) board =
-      ap (recordAll mark s n size width l) (calls-commute j i board ∙ ap₂ (λ (x y : ℕ). call x (call y board)) e f)
+      ap (recordAll s log size width l) (calls-commute j i board ∙ ap₂ (λ (x y : ℕ). call x (call y board)) e f)
   any-order (List·Permᴰ·trans p q) board = any-order p board ∙ any-order q board
 
   -- a segment whose record fits its bay, on boards that are not refused
-  module _ (i : ℕ) (fits : recordFits (segmentOf mark s n size i) width ≡ true) where
-    wrote-holds : (board : List ℕ) → shape i (length board) ≡ Fine → Holds (bayOf width (call i board) i) (segmentOf mark s n size i)
+  module _ (i : ℕ) (fits : recordFits (segmentOf s log size i) width ≡ true) where
+    wrote-holds : (board : List ℕ) → shape i (length board) ≡ Fine → Holds (bayOf width i (call i board)) (segmentOf s log size i)
     wrote-holds board v =
         let own = own-written i board v in
         rw (own .0)
-        (recorded-holds (segmentOf mark s n size i) (bayOf width board i) (ap (recordFits (segmentOf mark s n size i)) (own .1) ∙ fits))
+        (recorded-holds (segmentOf s log size i) (bayOf width i board) (ap (recordFits (segmentOf s log size i)) (own .1) ∙ fits))
 
     -- once recorded, a bay holds its record whatever calls follow
-    still-held : (calls board : List ℕ) → shape i (length board) ≡ Fine → Holds (bayOf width board i) (segmentOf mark s n size i)
-        → Holds (bayOf width (recordAll mark s n size width calls board) i) (segmentOf mark s n size i)
+    still-held : (calls board : List ℕ) → shape i (length board) ≡ Fine → Holds (bayOf width i board) (segmentOf s log size i)
+        → Holds (bayOf width i (recordAll s log size width calls board)) (segmentOf s log size i)
     unfolding recordAll
     still-held [] board v h = h
     still-held (j ∷ calls) board v h =
@@ -172,7 +172,7 @@ module _ (mark : ℕ → Bool) (s : Settings) (n size width : ℕ) where
         (λ other. rw (other-kept j i board other) h))
 
     pub then-held : (calls board : List ℕ) → shape i (length board) ≡ Fine → List·Memᴰ i calls
-        → Holds (bayOf width (recordAll mark s n size width calls board) i) (segmentOf mark s n size i)
+        → Holds (bayOf width i (recordAll s log size width calls board)) (segmentOf s log size i)
     unfolding recordAll
     then-held (j ∷ calls) board v (List·Memᴰ·head e) =
         still-held calls (call j board) (ap (shape i) (length-call j board) ∙ v) (rw (sym e) (wrote-holds board v))

@@ -1,23 +1,22 @@
 -- Reading true records: the offsets of a slow record, read as marks up to the marker, are the segment's cuts; and over all bays the walk's list is the log's.
 use Prim.Native.Nat.{ℕ, zero, suc, _+_, _-_, _≤_, _<_}
-use mathlib.Core.Path.{_≡_, refl, sym, ap, _∙_, subst}
+use mathlib.Core.Path.{_≡_, refl, sym, _∙_, subst}
 use mathlib.Core.Bool.{Bool}
-use mathlib.Core.List.{List, [], _∷_, append-assoc}
+use mathlib.Core.List.{List, [], _∷_}
 use native.Mathlib.Omega.{arith}
 use borrow.Author.Tests.{eq-eqb}
 use Rattle.laws.proofs.Cases.{by-lt, by-test}
-use Rattle.rule.specs.Rule.{hop, lastOr, cuts, cutsUpTo, Unmarked}
-use Rattle.rule.proofs.Leaps.{past-hop}
-use Rattle.rule.proofs.Hops.{hop-rises, cuts-by-hops}
+use Rattle.rule.specs.Rule.{lastOr, cuts, cutsUpTo, Unmarked}
 use Rattle.board_bays.specs.Segments.{segments, segmentStart, segmentEnd}
 use Rattle.board_bays.specs.Bays.{Record}
 use Rattle.board_record.specs.Records.{slowRecord, recordAfter, isMarker, prepend, segmentRecord}
-use Rattle.board_walk.specs.Walk.{forcedUpTo, readOffset, readAsMarks, bayCuts, baysCuts, lastCuts, walk}
+use Rattle.board_walk.specs.Walk.{forcedUpTo, readOffset, readAsMarks, bayCuts, walk}
 use Rattle.board_record.proofs.After.{piece, at-marker, no-marker, marker-later}
 use Rattle.board_record.proofs.Marking.{Marks, none-left, then-mark, marks-in}
 use Rattle.board_walk.proofs.Offsets.{forced-none, offset-far, read-switch}
-use Rattle.board_bays.proofs.Ranges.{reach, from-reach, to-reach, reach-none, reach-all, spans}
-use Rattle.board_merged.proofs.Following.{Walked, joined, to-last, idle, one-cut, one-pass, forced-walk, read-mark, up-to-moved}
+use Rattle.board_bays.proofs.Ranges.{reach, from-reach, to-reach, reach-none, spans}
+use Rattle.board_merged.proofs.Following.{Walked, joined, idle, one-cut, one-pass, read-mark}
+use Rattle.board_merged.proofs.AllBays.{all-bays}
 
 -- the marker, cut with nothing forced before it: all offsets after it are cuts
 read-marker : (lo hi c b : ℕ) (offsets : List ℕ) → forcedUpTo hi (b - 1) c ≡ [] → c + lo ≤ b → readAsMarks lo hi b c (b ∷ offsets) ≡ b ∷ offsets
@@ -63,46 +62,25 @@ module _ (mark : ℕ → Bool) (lo hi : ℕ) (positive : 0 < lo) (order : lo ≤
       (λ d x y. read-after within r d x y)
 
 -- over all bays
-module _ (mark : ℕ → Bool) (lo hi : ℕ) (positive : 0 < lo) (order : lo ≤ hi) (size n : ℕ) (sized : 0 < size) where
+module _ (mark : ℕ → Bool) (lo hi : ℕ) (positive : 0 < lo) (order : lo ≤ hi) (n size : ℕ) (sized : 0 < size) where
   -- from cut c, with nothing left to cut before segment i, through its bay
-  read-bay : (i c : ℕ) → i < segments size n → c ≤ reach size n i → Unmarked mark (c + lo) (suc (reach size n i))
-      → (m : ℕ) × Walked mark lo hi c (reach size n (suc i)) (bayCuts lo hi i c (segmentRecord mark lo hi size n i)) m
+  read-bay : (i c : ℕ) → i < segments n size → c ≤ reach n size i → Unmarked mark (c + lo) (suc (reach n size i))
+      → (m : ℕ) × Walked mark lo hi c (reach n size (suc i)) (bayCuts lo hi i c (segmentRecord mark lo hi n size i)) m
   unfolding bayCuts segmentRecord Read
   read-bay zero c h below clear =
-      let start : c ≡ 0 = omega (arith, reach-none size n sized) in
-      rw (start, to-reach size n sized 0) (_, one-pass mark lo hi positive order 0 (reach size n 1) (omega arith))
+      let start : c ≡ 0 = omega (arith, reach-none n size sized) in
+      rw (start, to-reach n size sized 0) (_, one-pass mark lo hi positive order 0 (reach n size 1) (omega arith))
   read-bay (suc i) c h below clear =
       let a : ℕ = segmentStart size (suc i) in
-      let e : ℕ = segmentEnd size n (suc i) in
-      let begins : a ≡ reach size n (suc i) = from-reach size n sized (suc i) h in
-      let within : a < e = spans size n sized (suc i) h .0 in
-      rw (← to-reach size n sized (suc i))
+      let e : ℕ = segmentEnd n size (suc i) in
+      let begins : a ≡ reach n size (suc i) = from-reach n size sized (suc i) h in
+      let within : a < e = spans n size sized (suc i) h .0 in
+      rw (← to-reach n size sized (suc i))
       (read-slow mark lo hi positive order e (marks-in mark e a (omega arith)) c (omega arith) (omega arith) (rw begins clear))
 
-  -- every bay holds its segment's record
-  module _ (bay : ℕ → Record) (true-board : (i : ℕ) → i < segments size n → bay i ≡ segmentRecord mark lo hi size n i) where
-    read-bays : (k i c : ℕ) → i + k ≡ segments size n → c ≤ reach size n i → Unmarked mark (c + lo) (suc (reach size n i))
-        → Walked mark lo hi c n (baysCuts lo hi bay k i c) (lastOr c (baysCuts lo hi bay k i c))
-    unfolding baysCuts lastOr
-    read-bays zero i c count below clear =
-        let all : reach size n i ≡ n = ap (reach size n) (omega arith) ∙ reach-all size n sized in
-        idle mark lo hi positive order c n (omega arith) (rw (← all) clear)
-    read-bays (suc k) i c count below clear =
-        let here : i < segments size n = omega arith in
-        let w = to-last mark lo hi positive order (subst (λ r. (m : ℕ) × Walked mark lo hi c (reach size n (suc i)) (bayCuts lo hi i c r) m) (sym (true-board i here))
-        (read-bay i c here below clear) .1) in
-        to-last mark lo hi positive order
-        (joined mark lo hi positive order w (read-bays k (suc i) _ (omega arith) (w .reached) (w .clear)))
-
-    -- the walk's list is the log's
-    pub merged : walk lo hi bay (segments size n) n ≡ cuts mark lo hi n
-    unfolding walk lastCuts
-    merged =
-        let w = read-bays (segments size n) 0 0 (omega arith) (omega arith) (λ q x y. absurd (omega (arith, reach-none size n sized))) in
-        let made : List ℕ = baysCuts lo hi bay (segments size n) 0 0 in
-        let f = forced-walk mark lo hi positive order (lastOr 0 made) n (w .reached) (w .clear) in
-        let rest : List ℕ = forcedUpTo hi n (lastOr 0 made) in
-        let whole = joined mark lo hi positive order w (f .0) in
-        let ahead = past-hop mark lo hi (lastOr (lastOr 0 made) rest) n (f .1) (f .0 .clear) in
-        let r = up-to-moved (hop mark lo hi) (hop-rises mark lo hi positive order) _ n (whole .reached) ahead (whole .hopped) in
-        sym (cuts-by-hops mark lo hi positive order n r ∙ append-assoc made rest _)
+  -- every bay holds its segment's record: the walk's list is the log's
+  pub merged : (bay : ℕ → Record) → ((i : ℕ) → i < segments n size → bay i ≡ segmentRecord mark lo hi n size i)
+      → walk lo hi bay (segments n size) n ≡ cuts mark lo hi n
+  merged bay true-board =
+      all-bays mark lo hi positive order n size sized bay
+      (λ i c h below clear. subst (λ r. (m : ℕ) × Walked mark lo hi c (reach n size (suc i)) (bayCuts lo hi i c r) m) (sym (true-board i h)) (read-bay i c h below clear))

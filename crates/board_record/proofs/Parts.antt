@@ -44,8 +44,8 @@ module _ (s : Settings) (log : List ℕ) (base last : ℕ) (begins : base ≤ la
       (λ h. unfold markFrom in stretch-mark q (omega arith) high)
 
 -- segment i, whose end the code has at hand
-module _ (s : Settings) (log : List ℕ) (size i : ℕ) (there : There size (length log) i) (ok : Ranges s) (last : ℕ) (ends : last ≡ min (i * size + size) (length log)) where
-  end-is : segmentEnd size (length log) i ≡ last
+module _ (s : Settings) (log : List ℕ) (size i : ℕ) (there : There (length log) size i) (ok : Ranges s) (last : ℕ) (ends : last ≡ min (i * size + size) (length log)) where
+  end-is : segmentEnd (length log) size i ≡ last
   unfolding segmentEnd
   end-is = sym ends
 
@@ -53,18 +53,18 @@ module _ (s : Settings) (log : List ℕ) (size i : ℕ) (there : There size (len
   inside = omega arith
 
   starts-before : i * size < last
-  starts-before = omega (arith, begins-below size (length log) (omega (arith, there .large)) i (there .there), there .large)
+  starts-before = omega (arith, begins-below (length log) size (omega (arith, there .large)) i (there .there), there .large)
 
   -- segment 0
   module _ (first : i ≡ 0) where
-    first-record : segmentOf (mark s log) s (length log) size i
+    first-record : segmentOf s log size i
         ≡ record { marker = 0; offsets = cutsUpTo (markFrom s (take (last - 0) (drop 0 log)) 0) (s .minimum) (s .maximum) (0 + length (take (last - 0) (drop 0 log))) 0 }
     unfolding segmentRecord
     first-record =
         let long = stretch-long s log 0 last (omega arith) inside in
         let e : 0 + length (take (last - 0) (drop 0 log)) ≡ last = omega arith in
-        let end0 : segmentEnd size (length log) 0 ≡ last = ap (segmentEnd size (length log)) (sym first) ∙ end-is in
-        ap (λ (j : ℕ). segmentRecord (mark s log) (s .minimum) (s .maximum) size (length log) j) first
+        let end0 : segmentEnd (length log) size 0 ≡ last = ap (segmentEnd (length log) size) (sym first) ∙ end-is in
+        ap (λ (j : ℕ). segmentRecord (mark s log) (s .minimum) (s .maximum) (length log) size j) first
         ∙ ap {B = Record} (λ (l : List ℕ). record { marker = 0; offsets = l })
         (ap (λ (x : ℕ). cutsUpTo (mark s log) (s .minimum) (s .maximum) x 0) end0
         ∙ sym (cuts-alike (markFrom s (take (last - 0) (drop 0 log)) 0) (mark s log) (s .minimum) (s .maximum) (omega (arith, ok .window-fits)) (ok .ordered) last 0
@@ -73,7 +73,7 @@ module _ (s : Settings) (log : List ℕ) (size i : ℕ) (there : There size (len
 
     pub from-zero : {after : Made} {list list′ : List ℕ}
         → Puts (cutsUpTo (markFrom s (take (last - 0) (drop 0 log)) 0) (s .minimum) (s .maximum) (0 + length (take (last - 0) (drop 0 log))) 0) (record { count = 0; cut = 0 }) after list list′
-        → Records (segmentOf (mark s log) s (length log) size i) 0 (record { count = after .count; marker = 0 }) list list′
+        → Records (segmentOf s log size i) 0 (record { count = after .count; marker = 0 }) list list′
     from-zero {after} {list} {list′} p =
         subst (λ r. Records r 0 (record { count = after .count; marker = 0 }) list list′) (sym first-record)
         (record { counted = p .counted; marked = refl; kept = p .kept })
@@ -95,18 +95,18 @@ module _ (s : Settings) (log : List ℕ) (size i : ℕ) (there : There size (len
         let long = stretch-long s log (i * size - 47) last (omega arith) inside in
         omega arith
 
-    opened : (j : ℕ) → (j ≡ 0 → ⊥) → segmentRecord (mark s log) (s .minimum) (s .maximum) size (length log) j
-        ≡ slowRecord (mark s log) (s .minimum) (s .maximum) (segmentEnd size (length log) j) (marksIn (mark s log) (segmentStart size j) (segmentEnd size (length log) j))
+    opened : (j : ℕ) → (j ≡ 0 → ⊥) → segmentRecord (mark s log) (s .minimum) (s .maximum) (length log) size j
+        ≡ slowRecord (mark s log) (s .minimum) (s .maximum) (segmentEnd (length log) size j) (marksIn (mark s log) (segmentStart size j) (segmentEnd (length log) size j))
     unfolding segmentRecord
     opened zero h = absurd (h refl)
     opened (suc j) h = refl
 
-    at-ends : slowRecord (mark s log) (s .minimum) (s .maximum) (segmentEnd size (length log) i) (marksIn (mark s log) (segmentStart size i) (segmentEnd size (length log) i))
+    at-ends : slowRecord (mark s log) (s .minimum) (s .maximum) (segmentEnd (length log) size i) (marksIn (mark s log) (segmentStart size i) (segmentEnd (length log) size i))
         ≡ slowRecord (mark s log) (s .minimum) (s .maximum) last (marksIn (mark s log) (i * size) last)
     unfolding segmentStart
     at-ends = ap (λ (x : ℕ). slowRecord (mark s log) (s .minimum) (s .maximum) x (marksIn (mark s log) (i * size) x)) end-is
 
-    slow-record : segmentOf (mark s log) s (length log) size i ≡ slowIn s (take (last - (i * size - 47)) (drop (i * size - 47) log)) (i * size - 47)
+    slow-record : segmentOf s log size i ≡ slowIn s (take (last - (i * size - 47)) (drop (i * size - 47) log)) (i * size - 47)
     unfolding slowIn
     slow-record =
         let base : ℕ = i * size - 47 in
@@ -121,5 +121,5 @@ module _ (s : Settings) (log : List ℕ) (size i : ℕ) (there : There size (len
         (λ q x y. stretch-mark s log base last (omega arith) inside q (omega arith) y)))
 
     pub from-stretch : {r : Recorded} {list list′ : List ℕ} → Records (slowIn s (take (last - (i * size - 47)) (drop (i * size - 47) log)) (i * size - 47)) 0 r list list′
-        → Records (segmentOf (mark s log) s (length log) size i) 0 r list list′
+        → Records (segmentOf s log size i) 0 r list list′
     from-stretch {r} {list} {list′} w = subst (λ x. Records x 0 r list list′) (sym slow-record) w

@@ -3,7 +3,6 @@ ghost use mathlib.Core.Path.{_≡_};
 ghost use mathlib.Core.Bool.{true};
 ghost use lib.ListN.{length};
 ghost use Rattle.terms.specs.Settings.{inRange};
-ghost use Rattle.cutting.specs.Marks.{mark};
 ghost use Rattle.board_record.specs.Stretches.{Records};
 ghost use Rattle.board_bays.specs.Segments.{There};
 ghost use Rattle.board_record.specs.Records.{segmentOf};
@@ -27,28 +26,20 @@ pub fn record_segment(
     i: u64,
     list: &mut [u64],
 ) -> Recorded
-    requires { ⌜ (inRange settings ≡ true) × There size (length (now log)) i ⌝ }
-    ensures { λ r. ⌜ Records (segmentOf (mark settings (now (log .entry))) settings (length (now (log .entry))) size i) 0 r (now (list .entry)) (now (list .exit)) ⌝ }
+    requires { ⌜ (inRange settings ≡ true) × There (length (now log)) size i ⌝ }
+    ensures { λ r. ⌜ Records (segmentOf settings (now (log .entry)) size i) 0 r (now (list .entry)) (now (list .exit)) ⌝ }
 {
-    let leaving = signature::tables::leaving();
-    let pushed = signature::tables::pushed();
+    let tables = signature::tables();
     let start = i * size;
-    let last = board_bays::shapes::end_of(start, size, log.len() as u64) as usize;
+    let last = board_bays::shapes::end_of(log.len() as u64, start, size) as usize;
     if i == 0 {
         let none = Made { count: 0, cut: 0 };
-        let made = cuts::record_cuts(settings, &log[0..last], 0, none, list, &leaving, &pushed);
+        let made = cuts::record_cuts(settings, &log[0..last], 0, none, list, &tables);
         return Recorded {
             count: made.count,
             marker: 0,
         };
     }
     let base = start - 47;
-    marks::record_marks(
-        settings,
-        &log[base as usize..last],
-        base,
-        list,
-        &leaving,
-        &pushed,
-    )
+    marks::record_marks(settings, &log[base as usize..last], base, list, &tables)
 }

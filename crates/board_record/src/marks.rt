@@ -3,7 +3,7 @@ ghost use mathlib.Core.Path.{_≡_};
 ghost use mathlib.Core.Bool.{true};
 ghost use Prim.Native.Nat.{_+_, _-_, _≤_, _<_, _^_};
 ghost use lib.ListN.{length};
-ghost use Rattle.signature.specs.Signatures.{signatureOf, window, leavingTable, pushedTable};
+ghost use Rattle.signature.specs.Signatures.{signatureOf, window, signatureTables};
 ghost use Rattle.terms.specs.Settings.{inRange};
 ghost use Rattle.cutting.specs.Search.{Seek};
 ghost use Rattle.board_record.specs.Records.{isMarker};
@@ -13,6 +13,7 @@ use super::cuts::record_cuts;
 use cutting::search::Sought;
 use cutting::search::seek;
 use lists::Made;
+use signature::Tables;
 use terms::Settings;
 
 // Whether a mark is the marker, after its neighbour before it.
@@ -31,35 +32,15 @@ fn is_marker(minimum: u64, maximum: u64, before: u64, mark: u64) -> bool
 }
 
 // The mark that follows a mark.
-fn next_mark(
-    settings: Settings,
-    stretch: &[u8],
-    spot: Sought,
-    leaving: &[u32; 256],
-    pushed: &[u32; 256],
-) -> Sought
-    requires { ⌜ inRange settings ≡ true ⌝ }
+fn next_mark(settings: Settings, stretch: &[u8], spot: Sought, tables: &Tables) -> Sought
+    requires { ⌜ settings .bits ≤ 31 ⌝ }
     requires { ⌜ (48 ≤ spot .at) × (spot .at < length (now stretch)) × (spot .signature ≡ signatureOf (window (now stretch) (spot .at - 48))) ⌝ }
-    requires { ⌜ (now leaving ≡ leavingTable) × (now pushed ≡ pushedTable) ⌝ }
+    requires { ⌜ now tables ≡ signatureTables ⌝ }
     ensures { λ r. ⌜ Seek settings (now (stretch .entry)) (spot .at + 1) (length (now (stretch .entry))) r ⌝ }
 {
     let at = spot.at;
-    let here = signature::roll(
-        spot.signature,
-        stretch[at - 48],
-        stretch[at],
-        leaving,
-        pushed,
-    );
-    seek(
-        settings,
-        stretch,
-        at + 1,
-        stretch.len(),
-        here,
-        leaving,
-        pushed,
-    )
+    let here = signature::roll(spot.signature, stretch[at - 48], stretch[at], tables);
+    seek(settings, stretch, at + 1, stretch.len(), here, tables)
 }
 
 // In slow mode from a mark on: every mark that follows it until the marker, and then the cuts.
@@ -69,12 +50,11 @@ fn record_after(
     base: u64,
     first: Sought,
     list: &mut [u64],
-    leaving: &[u32; 256],
-    pushed: &[u32; 256],
+    tables: &Tables,
 ) -> Recorded
     requires { ⌜ inRange settings ≡ true ⌝ }
     requires { ⌜ (48 ≤ first .at) × (first .at ≤ length (now stretch)) × (first .signature ≡ signatureOf (window (now stretch) (first .at - 48))) × (base + length (now stretch) ≤ 2 ^ 40) ⌝ }
-    requires { ⌜ (now leaving ≡ leavingTable) × (now pushed ≡ pushedTable) ⌝ }
+    requires { ⌜ now tables ≡ signatureTables ⌝ }
     ensures { λ r. ⌜ Records (afterIn settings (now (stretch .entry)) base (first .at)) 1 r (now (list .entry)) (now (list .exit)) ⌝ }
 {
     let minimum = settings.minimum;
@@ -82,7 +62,7 @@ fn record_after(
     let mut spot = first;
     let mut count: u64 = 1;
     while spot.at < stretch.len() {
-        let next = next_mark(settings, stretch, spot, leaving, pushed);
+        let next = next_mark(settings, stretch, spot, tables);
         if !next.found {
             return Recorded { count, marker: 0 };
         }
@@ -91,7 +71,7 @@ fn record_after(
         count += 1;
         if is_marker(minimum, maximum, base + spot.at as u64, offset) {
             let made = Made { count, cut: offset };
-            let all = record_cuts(settings, stretch, base, made, list, leaving, pushed);
+            let all = record_cuts(settings, stretch, base, made, list, tables);
             return Recorded {
                 count: all.count,
                 marker: offset,
@@ -108,17 +88,16 @@ pub fn record_marks(
     stretch: &[u8],
     base: u64,
     list: &mut [u64],
-    leaving: &[u32; 256],
-    pushed: &[u32; 256],
+    tables: &Tables,
 ) -> Recorded
     requires { ⌜ inRange settings ≡ true ⌝ }
     requires { ⌜ (48 ≤ length (now stretch)) × (base + length (now stretch) ≤ 2 ^ 40) ⌝ }
-    requires { ⌜ (now leaving ≡ leavingTable) × (now pushed ≡ pushedTable) ⌝ }
+    requires { ⌜ now tables ≡ signatureTables ⌝ }
     ensures { λ r. ⌜ Records (slowIn settings (now (stretch .entry)) base) 0 r (now (list .entry)) (now (list .exit)) ⌝ }
 {
-    let here = signature::of_window(stretch, 0, pushed);
+    let here = signature::of_window(stretch, 0, tables);
     let last = stretch.len();
-    let first = seek(settings, stretch, 48, last, here, leaving, pushed);
+    let first = seek(settings, stretch, 48, last, here, tables);
     if !first.found {
         return Recorded {
             count: 0,
@@ -126,5 +105,5 @@ pub fn record_marks(
         };
     }
     lists::put(list, 0, base + first.at as u64);
-    record_after(settings, stretch, base, first, list, leaving, pushed)
+    record_after(settings, stretch, base, first, list, tables)
 }

@@ -9,7 +9,7 @@ use native.Mathlib.Omega.{arith}
 use lib.ListN.{length, set}
 use Rattle.rule.specs.Rule.{lastOr, closing}
 use Rattle.rule.proofs.Hops.{still-open, already}
-use Rattle.cutting.specs.WholeLog.{writtenList}
+use Rattle.lists.specs.Written.{writtenList}
 use Rattle.terms.specs.declared.Settings.{Settings}
 use Rattle.terms.specs.declared.Verdict.the-variants.{Fine}
 use Rattle.terms.specs.Rows.{verdict}
@@ -56,42 +56,42 @@ module _ (hi n : ℕ) (before forced : Made) (list₀ list : List ℕ) (ordered 
 
 -- all bays of a board that was judged
 module _ (s : Settings) (n size width : ℕ) (board : List ℕ) (sized : 0 < size) (positive : 1 ≤ s .maximum) (short : n ≤ 2 ^ 40)
-    (fine : verdict (baysRows s size width n board (segments size n) 0) ≡ Fine) where
-  judged-bay : (i : ℕ) → i < segments size n → Judged s size n i (bayOf width board i)
-  judged-bay i h = subst (λ j. Judged s size n j (bayOf width board j)) (zero-add i) (each-done s size width n board (segments size n) 0 i h fine)
+    (fine : verdict (baysRows s n size width board (segments n size) 0) ≡ Fine) where
+  judged-bay : (i : ℕ) → i < segments n size → Judged s n size i (bayOf width i board)
+  judged-bay i h = subst (λ j. Judged s n size j (bayOf width j board)) (zero-add i) (each-done s n size width board (segments n size) 0 i h fine)
 
-  from-cut : (i c : ℕ) → i < segments size n → c ≤ reach size n i
-      → risesWithin c (segmentEnd size n i) (recordIn (bayOf width board i) .offsets) ≡ true
+  from-cut : (i c : ℕ) → i < segments n size → c ≤ reach n size i
+      → risesWithin c (segmentEnd n size i) (recordIn (bayOf width i board) .offsets) ≡ true
   from-cut i c h low =
-      let start : segmentStart size i ≡ reach size n i = from-reach size n sized i h in
-      rises-wider (recordIn (bayOf width board i) .offsets) (segmentStart size i) (segmentEnd size n i) c (segmentEnd size n i) (omega arith) (omega arith)
+      let start : segmentStart size i ≡ reach n size i = from-reach n size sized i h in
+      rises-wider (recordIn (bayOf width i board) .offsets) (segmentStart size i) (segmentEnd n size i) c (segmentEnd n size i) (omega arith) (omega arith)
       (judged-bay i h .rises)
 
   -- bay i is ready to be walked from the cut c
-  pub ready : (i c : ℕ) → i < segments size n → c ≤ reach size n i → i * width + width ≤ length board → 2 ≤ width → (bay : List ℕ) → bay ≡ bayOf width board i
+  pub ready : (i c : ℕ) → i < segments n size → c ≤ reach n size i → i * width + width ≤ length board → 2 ≤ width → (bay : List ℕ) → bay ≡ bayOf width i board
       → ((2 ≤ length bay) × (isDone bay ≡ true) × (offsetCount bay ≤ length bay - 2)) × (risesWithin c (2 ^ 40) (recordIn bay .offsets) ≡ true)
   ready i c h low fits wide bay is-bay =
       let j = judged-bay i h in
-      let span = spans size n sized i h in
-      let long : 2 ≤ length (bayOf width board i) = rw (length-bay width board i fits) wide in
-      let rising : risesWithin c (2 ^ 40) (recordIn (bayOf width board i) .offsets) ≡ true =
-      rises-wider (recordIn (bayOf width board i) .offsets) c (segmentEnd size n i) c (2 ^ 40) (omega arith) (omega arith) (from-cut i c h low) in
+      let span = spans n size sized i h in
+      let long : 2 ≤ length (bayOf width i board) = rw (length-bay width i board fits) wide in
+      let rising : risesWithin c (2 ^ 40) (recordIn (bayOf width i board) .offsets) ≡ true =
+      rises-wider (recordIn (bayOf width i board) .offsets) c (segmentEnd n size i) c (2 ^ 40) (omega arith) (omega arith) (from-cut i c h low) in
       rw is-bay ((long, j .done, j .few), rising)
 
-  pub low-after : (i c : ℕ) → i < segments size n → c ≤ reach size n i
-      → lastOr c (bayCuts (s .minimum) (s .maximum) i c (recordIn (bayOf width board i))) ≤ reach size n (suc i)
+  pub low-after : (i c : ℕ) → i < segments n size → c ≤ reach n size i
+      → lastOr c (bayCuts (s .minimum) (s .maximum) i c (recordIn (bayOf width i board))) ≤ reach n size (suc i)
   low-after i c h low =
-      let start : segmentStart size i ≡ reach size n i = from-reach size n sized i h in
-      let span = spans size n sized i h in
-      rw (← to-reach size n sized i)
-      (bay-last (s .minimum) (s .maximum) i positive (recordIn (bayOf width board i)) c (segmentEnd size n i) (omega arith) (from-cut i c h low))
+      let start : segmentStart size i ≡ reach n size i = from-reach n size sized i h in
+      let span = spans n size sized i h in
+      rw (← to-reach n size sized i)
+      (bay-last (s .minimum) (s .maximum) i positive (recordIn (bayOf width i board)) c (segmentEnd n size i) (omega arith) (from-cut i c h low))
 
 -- the bays before bay i are walked
 pub record Walking (lo hi n size width : ℕ) (board : List ℕ) (count : ℕ) (made₀ : Made) (list₀ list : List ℕ) (made : Made) (i : ℕ) : Type 0 where
   pub passed : i ≤ count
-  pub low : made .cut ≤ reach size n i
-  pub way : Underway (baysCuts lo hi (λ j. recordIn (bayOf width board j)) count 0 (made₀ .cut))
-      (baysCuts lo hi (λ j. recordIn (bayOf width board j)) (count - i) i (made .cut))
+  pub low : made .cut ≤ reach n size i
+  pub way : Underway (baysCuts lo hi (λ j. recordIn (bayOf width j board)) count 0 (made₀ .cut))
+      (baysCuts lo hi (λ j. recordIn (bayOf width j board)) (count - i) i (made .cut))
       made₀ list₀ (made .count) (made .cut) list
 
 pub start : (lo hi n size width : ℕ) (board : List ℕ) (count : ℕ) (list : List ℕ)
@@ -101,14 +101,14 @@ start lo hi n size width board count list =
     record {
       passed = omega arith;
       low = omega arith;
-      way = rw all (begin (baysCuts lo hi (λ j. recordIn (bayOf width board j)) count 0 0) (record { count = 0; cut = 0 }) list (omega arith));
+      way = rw all (begin (baysCuts lo hi (λ j. recordIn (bayOf width j board)) count 0 0) (record { count = 0; cut = 0 }) list (omega arith));
     }
 
 module _ {lo hi n size width : ℕ} {board : List ℕ} {count : ℕ} {made₀ : Made} {list₀ list : List ℕ} {made : Made} {i : ℕ}
     (w : Walking lo hi n size width board count made₀ list₀ list made i) where
-  pub next-bay : i < count → {after : Made} {list′ : List ℕ} {bay : List ℕ} → bay ≡ bayOf width board i
+  pub next-bay : i < count → {after : Made} {list′ : List ℕ} {bay : List ℕ} → bay ≡ bayOf width i board
       → Puts (bayCuts lo hi i (made .cut) (recordIn bay)) made after list list′
-      → lastOr (made .cut) (bayCuts lo hi i (made .cut) (recordIn (bayOf width board i))) ≤ reach size n (suc i)
+      → lastOr (made .cut) (bayCuts lo hi i (made .cut) (recordIn (bayOf width i board))) ≤ reach n size (suc i)
       → Walking lo hi n size width board count made₀ list₀ list′ after (i + 1)
   unfolding baysCuts
   next-bay h is-bay walked low =
@@ -117,27 +117,27 @@ module _ {lo hi n size width : ℕ} {board : List ℕ} {count : ℕ} {made₀ : 
       record {
         passed = omega arith;
         low = rw (own .last, add-one) low;
-        way = more (bayCuts lo hi i (made .cut) (recordIn (bayOf width board i)))
-            (rest-is _ (ap (λ (k : ℕ). baysCuts lo hi (λ j. recordIn (bayOf width board j)) k i (made .cut)) left
-            ∙ ap₂ (λ (x y : ℕ). bayCuts lo hi i (made .cut) (recordIn (bayOf width board i)) ++ baysCuts lo hi (λ j. recordIn (bayOf width board j)) (count - (i + 1)) x y)
+        way = more (bayCuts lo hi i (made .cut) (recordIn (bayOf width i board)))
+            (rest-is _ (ap (λ (k : ℕ). baysCuts lo hi (λ j. recordIn (bayOf width j board)) k i (made .cut)) left
+            ∙ ap₂ (λ (x y : ℕ). bayCuts lo hi i (made .cut) (recordIn (bayOf width i board)) ++ baysCuts lo hi (λ j. recordIn (bayOf width j board)) (count - (i + 1)) x y)
             (sym (add-one i)) (sym (own .last))) (w .way))
             refl refl own;
       }
 
-  pub all-walked : count ≤ i → (k : ℕ) → count ≡ k → Puts (baysCuts lo hi (λ j. recordIn (bayOf width board j)) k 0 (made₀ .cut)) made₀ made list₀ list
+  pub all-walked : count ≤ i → (k : ℕ) → count ≡ k → Puts (baysCuts lo hi (λ j. recordIn (bayOf width j board)) k 0 (made₀ .cut)) made₀ made list₀ list
   unfolding baysCuts
   all-walked h k e =
       let none : count - i ≡ 0 = omega (arith, w .passed) in
-      subst (λ x. Puts (baysCuts lo hi (λ j. recordIn (bayOf width board j)) x 0 (made₀ .cut)) made₀ made list₀ list) e (ended (rest-is _ (rw none) (w .way)))
+      subst (λ x. Puts (baysCuts lo hi (λ j. recordIn (bayOf width j board)) x 0 (made₀ .cut)) made₀ made list₀ list) e (ended (rest-is _ (rw none) (w .way)))
 
 -- the bays, then the end: the whole walk
 module _ (s : Settings) (n size width : ℕ) (board : List ℕ) {made after : Made} {list₀ list list′ : List ℕ}
-    (bays : Puts (baysCuts (s .minimum) (s .maximum) (λ j. recordIn (bayOf width board j)) (segments size n) 0 0) (record { count = 0; cut = 0 }) made list₀ list)
+    (bays : Puts (baysCuts (s .minimum) (s .maximum) (λ j. recordIn (bayOf width j board)) (segments n size) 0 0) (record { count = 0; cut = 0 }) made list₀ list)
     (last : Puts (lastCuts (s .maximum) n (made .cut)) made after list list′) where
   pub walked : Puts (boardWalk s n size width board) (record { count = 0; cut = 0 }) after list₀ list′
   unfolding boardWalk walk
   walked =
-      let cuts : List ℕ = baysCuts (s .minimum) (s .maximum) (λ j. recordIn (bayOf width board j)) (segments size n) 0 0 in
+      let cuts : List ℕ = baysCuts (s .minimum) (s .maximum) (λ j. recordIn (bayOf width j board)) (segments n size) 0 0 in
       let u = more cuts (begin (cuts ++ lastCuts (s .maximum) n (lastOr 0 cuts)) (record { count = 0; cut = 0 }) list₀ (omega arith)) refl refl bays in
       all-made u (ap (lastCuts (s .maximum) n) (bays .last)) last
 

@@ -11,7 +11,7 @@ ghost use Rattle.board_bays.specs.Bays.{bayOf, recordIn, offsetCount, isDone, r
 ghost use Rattle.board_walk.specs.Walk.{bayCuts, baysCuts, lastCuts, boardWalk};
 ghost use Rattle.lists.specs.Puts.{Puts};
 ghost use Rattle.board_bays.specs.Judging.{baysRows};
-ghost use Rattle.cutting.specs.WholeLog.{writtenList};
+ghost use Rattle.lists.specs.Written.{writtenList};
 use lists::Made;
 use terms::Settings;
 
@@ -40,18 +40,18 @@ fn walk_bays(
     width: u64,
     board: &[u64],
 ) -> Made
-    requires { ⌜ (inRange settings ≡ true) × (n ≤ 2 ^ 40) × (boardFits size width n (length (now board)) ≡ true) ⌝ }
-    requires { ⌜ verdict (baysRows settings size width n (now board) (segments size n) 0) ≡ Fine ⌝ }
-    ensures { λ r. ⌜ Puts (baysCuts (settings .minimum) (settings .maximum) (λ i. recordIn (bayOf width (now (board .entry)) i)) (segments size n) 0 0) (record { count = 0; cut = 0 }) r (now (list .entry)) (now (list .exit)) ⌝ }
+    requires { ⌜ (inRange settings ≡ true) × (n ≤ 2 ^ 40) × (boardFits n size width (length (now board)) ≡ true) ⌝ }
+    requires { ⌜ verdict (baysRows settings n size width (now board) (segments n size) 0) ≡ Fine ⌝ }
+    ensures { λ r. ⌜ Puts (baysCuts (settings .minimum) (settings .maximum) (λ i. recordIn (bayOf width i (now (board .entry)))) (segments n size) 0 0) (record { count = 0; cut = 0 }) r (now (list .entry)) (now (list .exit)) ⌝ }
     ensures { λ r. ⌜ r .cut ≤ n ⌝ }
 {
-    let count = board_bays::shapes::segments_of(size, n);
+    let count = board_bays::shapes::segments_of(n, size);
     let minimum = settings.minimum;
     let maximum = settings.maximum;
     let mut made = Made { count: 0, cut: 0 };
     let mut i = 0;
     while i < count {
-        let bay = board_bays::reading::bay_at(board, width, i);
+        let bay = board_bays::reading::bay_at(width, i, board);
         made = walk_bay(list, made, i, bay, minimum, maximum);
         i += 1;
     }
@@ -83,8 +83,8 @@ pub fn walk_board(
     width: u64,
     board: &[u64],
 ) -> u64
-    requires { ⌜ (inRange settings ≡ true) × (n ≤ 2 ^ 40) × (boardFits size width n (length (now board)) ≡ true) ⌝ }
-    requires { ⌜ verdict (baysRows settings size width n (now board) (segments size n) 0) ≡ Fine ⌝ }
+    requires { ⌜ (inRange settings ≡ true) × (n ≤ 2 ^ 40) × (boardFits n size width (length (now board)) ≡ true) ⌝ }
+    requires { ⌜ verdict (baysRows settings n size width (now board) (segments n size) 0) ≡ Fine ⌝ }
     ensures { λ r. ⌜ r ≡ length (boardWalk settings n size width (now (board .entry))) ⌝ }
     ensures { λ r. ⌜ now (list .exit) ≡ writtenList (boardWalk settings n size width (now (board .entry))) (now (list .entry)) ⌝ }
 {

@@ -1,6 +1,6 @@
 // Merging: log C's board in whatever order it was recorded, boards that no log records, and the refusals. The lent list starts as sevens.
-use board::merging::merge;
-use board::segment::segment;
+use board::merge;
+use board::segment;
 use figures::logs;
 use figures::logs::all_bits;
 use figures::show;

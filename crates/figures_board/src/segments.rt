@@ -1,6 +1,5 @@
 // Segments: what log C's record in their bays, the log's end among it, and the refusals with the board that each leaves. A board starts as sevens.
-use board::segment::record_bay;
-use board::segment::segment;
+use board::segment;
 use figures::logs;
 use figures::logs::all_bits;
 use figures::show;
@@ -32,7 +31,7 @@ fn second(what: &[u8], minimum: u64, maximum: u64) {
 // The same at 48/200, in a bay lent alone.
 fn alone(what: &[u8], bay: &mut [u64]) {
     let c = logs::c();
-    let answer = record_bay(all_bits(48, 200), &c, 150, 1, bay);
+    let answer = board::record(all_bits(48, 200), &c, 150, 1, bay);
     show::answer(what, answer);
     show::entries(bay);
 }

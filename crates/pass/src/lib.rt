@@ -29,9 +29,10 @@ pub fn fresh(settings: Settings) -> Outcome
     ensures answer { λ r. ⌜ r ≡ freshOutcome settings ⌝ }
 {
     if !settings.in_range() {
+        let nothing = Settings::none();
         return Outcome {
             answer: Answer::Refused(Refusal::SettingsOutOfRange),
-            carry: untouched(Settings::none()),
+            carry: untouched(nothing),
         };
     }
     Outcome {

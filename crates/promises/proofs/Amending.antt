@@ -1,9 +1,10 @@
 -- Amending: its rows of the table, what it leaves and counts, and demand 3, the amended list.
-use Prim.Native.Nat.{ℕ, _≤_, _<_}
+use Prim.Native.Nat.{ℕ, _+_, _/_, _^_, _≤_, _<_}
 use mathlib.Core.Path.{_≡_, refl, sym, _∙_}
-use mathlib.Core.Bool.{true}
-use mathlib.Core.List.{List, [], _∷_, _++_, map}
+use mathlib.Core.Bool.{true, not}
+use mathlib.Core.List.{List, [], _∷_, _++_}
 use native.Mathlib.Omega.{arith}
+use lib.Dec.{ltb}
 use lib.ListN.{length, getD}
 use borrow.Author.Tests.{ltb-false}
 use Rattle.laws.proofs.Cases.{by-test}
@@ -14,8 +15,8 @@ use Rattle.terms.specs.declared.Verdict.the-variants.{Fine}
 use Rattle.terms.specs.Refusals.{numberOf}
 use Rattle.terms.specs.Settings.{inRange}
 use Rattle.terms.specs.Answers.{longest}
-use Rattle.terms.specs.Rows.{Row, verdict, ruled, firstRow}
-use Rattle.terms.proofs.Numbers.{numbered}
+use Rattle.terms.specs.Rows.{verdict, ruled, firstRow}
+use Rattle.terms.proofs.Numbers.{some-number}
 use Rattle.terms.proofs.Verdicts.{by-verdict, through, clear, Leaves, refused-leaves}
 use Rattle.terms.proofs.Ranges.{ranges}
 use Rattle.lists.specs.WellFormed.{wellFormed, lengthOf}
@@ -36,10 +37,11 @@ use Rattle.amending.proofs.Stretch.{stretch-parts}
 use Rattle.amending.proofs.Fitting.{edit-told}
 use Rattle.amending.proofs.Told.{front-told, recut-told}
 use Rattle.amending.proofs.Chained.{well-formed-again, new-length, meeting-there}
+use Rattle.promises.specs.Tables.{numbered}
 use Rattle.promises.specs.Amendments.{Counts, Counted, AsAfresh}
 
 none-holds : (v : Verdict) → ruled v numberOf 0 ≡ 0 → v ≡ Fine
-none-holds v success = by-verdict v (λ fine. fine) (λ why wrong. let none : numberOf why ≡ 0 = rw wrong at success in absurd (omega (arith, numbered why)))
+none-holds v success = by-verdict v (λ fine. fine) (λ why wrong. let none : numberOf why ≡ 0 = rw wrong at success in absurd (omega (arith, some-number why)))
 
 -- beside a refusal each count is 0
 pub amend-uncounted : (answer : Amendment) → (amendmentNumber answer ≡ 0 → ⊥) → Counts answer 0 0 0
@@ -48,17 +50,26 @@ amend-uncounted (Amended f r b) refusal = absurd (refusal refl)
 amend-uncounted (Refused why) refusal = record { kept = refl; anew = refl; moved = refl }
 
 module _ (settings : Settings) (old : List ℕ) (edit : Edit) (log : List ℕ) where
-  -- document 01's order
-  pub amend-order : (room : ℕ) → map (λ (r : Row). numberOf (r .why)) (amendRows settings old edit log room) ≡ 1 ∷ 10 ∷ 11 ∷ 2 ∷ 5 ∷ 17 ∷ []
-  unfolding amendRows
-  amend-order room = refl
+  -- document 01's order: 1, 10, 11, 2, 5; and the guard
+  pub amend-table : (room : ℕ)
+      → numbered (amendRows settings old edit log room)
+      ≡ (1, not (inRange settings))
+      ∷ (10, not (wellFormed (settings .minimum) (settings .maximum) old))
+      ∷ (11, not (editFits (lengthOf old) edit (length log)))
+      ∷ (2, ltb (2 ^ 40) (length log))
+      ∷ (5, ltb room (length log / settings .minimum + 1))
+      ∷ (17, ltb room (length (amendedList (newCutsOf settings log) old edit)))
+      ∷ []
+  unfolding numbered amendRows
+  amend-table room = refl
 
   pub amend-rows : (room : ℕ) → amendmentNumber (amendAnswer settings old edit log room) ≡ firstRow (amendRows settings old edit log room)
   unfolding amendmentNumber amendAnswer
   amend-rows room = through amendmentNumber (verdict (amendRows settings old edit log room)) Refused (counts (newCutsOf settings log) old edit)
 
   pub amend-leaves : (list : List ℕ)
-      → Leaves (amendmentNumber (amendAnswer settings old edit log (length list))) 17 list (writtenList (amendedList (newCutsOf settings log) old edit) list) (amendLeaves settings old edit log list)
+      → Leaves (amendmentNumber (amendAnswer settings old edit log (length list))) 17 list (writtenList (amendedList (newCutsOf settings log) old edit) list)
+      (amendLeaves settings old edit log list)
   unfolding amendLeaves
   amend-leaves list = rw (amend-rows (length list)) (refused-leaves (verdict (amendRows settings old edit log (length list))) ListFull)
 
@@ -68,7 +79,8 @@ module _ (settings : Settings) (old : List ℕ) (edit : Edit) (log : List ℕ) w
 
   -- the answer counts the three parts, front, recut and back, and they are written in this order
   pub amended-counted : (list : List ℕ) → amendmentNumber (amendAnswer settings old edit log (length list)) ≡ 0
-      → Counted (amendAnswer settings old edit log (length list)) list (amendLeaves settings old edit log list) (front (edit .at) old) (recut (newCutsOf settings log) old edit) (back (newCutsOf settings log) old edit)
+      → Counted (amendAnswer settings old edit log (length list)) list (amendLeaves settings old edit log list)
+      (front (edit .at) old) (recut (newCutsOf settings log) old edit) (back (newCutsOf settings log) old edit)
   unfolding amendAnswer amendLeaves frontOf recutOf backOf amendedList
   amended-counted list success =
       let fine = none-holds (verdict (amendRows settings old edit log (length list))) (sym (amend-rows (length list)) ∙ success) in
@@ -107,8 +119,8 @@ module _ (settings : Settings) (old : List ℕ) (edit : Edit) (log log′ : List
 module _ (settings : Settings) (old : List ℕ) (edit : Edit) (log : List ℕ) (formed : wellFormed (settings .minimum) (settings .maximum) old ≡ true) where
   -- the three parts that the answer counts, and the recut stretch, are what they say
   pub amended-parts : FrontTold (edit .at) old (front (edit .at) old) (pastFront (edit .at) old) (restart (edit .at) old)
-      × Recut edit (pastFront (edit .at) old) (length log) (newCutsOf settings log (restart (edit .at) old)) (recut (newCutsOf settings log) old edit) (back (newCutsOf settings log) old edit)
-      (stretchEnd (newCutsOf settings log) old edit (length log))
+      × Recut edit (pastFront (edit .at) old) (length log) (newCutsOf settings log (restart (edit .at) old)) (recut (newCutsOf settings log) old edit)
+      (back (newCutsOf settings log) old edit) (stretchEnd (newCutsOf settings log) old edit (length log))
   unfolding recut back stretchEnd
   amended-parts = (front-told (settings .minimum) (settings .maximum) (edit .at) old formed, recut-told edit _ (length log) (newCutsOf settings log (restart (edit .at) old)))
 

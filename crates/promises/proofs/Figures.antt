@@ -20,7 +20,7 @@ use Rattle.board_bays.specs.Bays.{entries, bayOf}
 use Rattle.board_record.specs.Records.{marksAmong, marksIn, isMarker, prepend, recordAfter, slowRecord, segmentRecord}
 use Rattle.board_bays.specs.Judging.{callRows}
 use Rattle.terms.specs.Rows.{verdict}
-use Rattle.board.specs.Recording.{recordFits, recorded, withBay, segmentRows, segmentAnswer, segmentBoard}
+use Rattle.board.specs.Recording.{recordFits, recorded, withBay, segmentRows, segmentAnswer, segmentLeaves}
 use Rattle.promises.specs.Figures.{Figure, power, cuts, segment, Holds, starred, Each, none, and-each, logA, logC}
 
 sameLists : List ℕ → List ℕ → Bool
@@ -43,8 +43,8 @@ test : Figure → Bool
 test (power k value) = eqb (rem degree lowPart (2 ^ k)) value
 test (cuts settings log list) = sameLists (cutList settings log) list
 test (segment settings log size width i board number after) =
-    eqb (answerNumber (segmentAnswer (mark settings log) settings (length log) size i width (length board))) number
-    && sameLists (segmentBoard (mark settings log) settings (length log) size i width board) after
+    eqb (answerNumber (segmentAnswer settings log size width i (length board))) number
+    && sameLists (segmentLeaves settings log size width i board) after
 
 told : (f : Figure) → test f ≡ true → Holds f
 unfolding test Holds
@@ -62,7 +62,7 @@ each [] e = none
 each (f ∷ fs) e = let both = both-true e in and-each (told f (both .0)) (each fs (both .1))
 
 passed : testAll starred ≡ true
-unfolding testAll test sameLists starred logA logC cutsFrom chain next firstMark mark matches signatureOf signature numberOfBytes rem divide foldDigits answerNumber segmentAnswer segmentBoard recordFits recorded withBay bayOf callRows segmentRows verdict inRange sizeInRange segments segmentStart segmentEnd shapeFits boardFits segmentFits entries marksAmong marksIn isMarker prepend recordAfter slowRecord segmentRecord hop hops cutsUpTo over
+unfolding testAll test sameLists starred logA logC cutsFrom chain next firstMark mark matches signatureOf signature numberOfBytes rem divide foldDigits answerNumber segmentAnswer segmentLeaves recordFits recorded withBay bayOf callRows segmentRows verdict inRange sizeInRange segments segmentStart segmentEnd shapeFits boardFits segmentFits entries marksAmong marksIn isMarker prepend recordAfter slowRecord segmentRecord hop hops cutsUpTo over
 passed = refl
 
 pub figures : Each starred

@@ -1,8 +1,10 @@
 -- The two calls of the sheet: their numbers by their tables of rows, what a refusal leaves, and the values beside each answer.
-use Prim.Native.Nat.{ℕ, _+_, _*_}
-use mathlib.Core.Path.{_≡_, sym, _∙_}
-use mathlib.Core.List.{List}
+use Prim.Native.Nat.{ℕ, _+_, _-_, _*_}
+use mathlib.Core.Path.{_≡_, refl, sym, _∙_}
+use mathlib.Core.Bool.{not, _&&_}
+use mathlib.Core.List.{List, [], _∷_}
 use native.Mathlib.Omega.{arith}
+use lib.Dec.{leb, ltb, eqb}
 use lib.ListN.{length, take, drop}
 use lib.Seq.{drop-append-seam}
 use Rattle.laws.specs.Over.{over}
@@ -12,13 +14,18 @@ use Rattle.terms.specs.declared.Label.{Label}
 use Rattle.terms.specs.declared.Answer.the-variants as answer
 use Rattle.terms.specs.declared.Verdict.the-variants.{Fine}
 use Rattle.terms.specs.Refusals.{numberOf}
+use Rattle.terms.specs.Labels.{byteOf}
+use Rattle.terms.specs.Settings.{inRange}
 use Rattle.terms.specs.Answers.{answerNumber, answerCount}
 use Rattle.terms.specs.Rows.{Row, verdict, firstRow}
-use Rattle.terms.proofs.Numbers.{numbered}
+use Rattle.terms.proofs.Numbers.{some-number}
 use Rattle.terms.proofs.Verdicts.{by-verdict, through, refused-keeps}
+use Rattle.lists.specs.WellFormed.{wellFormed}
+use Rattle.words.specs.Runs.{same}
 use Rattle.sheet_format.specs.Forms.{cutsForm}
-use Rattle.sheet_format.specs.Sheets.{sheetOf}
-use Rattle.sheet_format.specs.Clean.{trailerOf, listIn}
+use Rattle.sheet_format.specs.Trailer.{trailerRight}
+use Rattle.sheet_format.specs.Sheets.{checked, sheetOf}
+use Rattle.sheet_format.specs.Clean.{trailerBytes, trailerOf, sheetIn, listIn, hasTrailer, hasList, cleanRows}
 use Rattle.sheet_format.proofs.Forms.{cuts-formed}
 use Rattle.sheet_format.proofs.Cleanly.{clean, length-list}
 use Rattle.sheet_format.proofs.RoundTrip.{length-sheet}
@@ -28,20 +35,32 @@ use Rattle.sheet.specs.Read.{readSheetRows, readSheetAnswer, readSheetLeaves}
 use Rattle.sheet.specs.Answers.{sheetNumber, sheetLabel, sheetSettings, sheetCount}
 use Rattle.sheet.proofs.Writing.{writable}
 use Rattle.sheet.proofs.Reading.{passed}
+use Rattle.promises.specs.Tables.{numbered}
 use Rattle.promises.specs.Sheets.{NothingRead, ReadOut, WrittenOut}
 
 -- the number 0 says that no row holds
 none-holds : (rows : List Row) → firstRow rows ≡ 0 → verdict rows ≡ Fine
 none-holds rows e =
     by-verdict (verdict rows) (λ v. v)
-    (λ why v. let none : numberOf why ≡ 0 = rw v at e in absurd (omega (arith, numbered why, none)))
+    (λ why v. let none : numberOf why ≡ 0 = rw v at e in absurd (omega (arith, some-number why)))
 
 -- what stands past the entries that are written over others
 past-over : (l b : List ℕ) (n : ℕ) → length l ≡ n → (take n (over l b) ≡ l) × (drop n (over l b) ≡ drop n b)
 unfolding over
 past-over l b n e = rw (← e) (take-over l b, drop-append-seam l (drop (length l) b))
 
+-- writing: 1, 10, 16, 5
 module _ (settings : Settings) (list : List ℕ) where
+  pub write-sheet-table : (room : ℕ)
+      → numbered (writeSheetRows settings list room)
+      ≡ (1, not (inRange settings))
+      ∷ (10, not (wellFormed (settings .minimum) (settings .maximum) list))
+      ∷ (16, ltb 1_048_576 (length list))
+      ∷ (5, ltb room (8 * length list + 32))
+      ∷ []
+  unfolding writeSheetRows numbered
+  write-sheet-table room = refl
+
   pub write-sheet-rows : (room : ℕ) → answerNumber (writeSheetAnswer settings list room) ≡ firstRow (writeSheetRows settings list room)
   unfolding answerNumber writeSheetAnswer
   write-sheet-rows room = through answerNumber (verdict (writeSheetRows settings list room)) answer.Refused _
@@ -66,7 +85,20 @@ module _ (settings : Settings) (list : List ℕ) where
       let p = past-over (sheetOf cutsForm settings label list) bytes (8 * length list + 32) (length-sheet cutsForm cuts-formed settings label list (w .in-range)) in
       record { count = rw v; sheet = rw v (p .0); others-stay = rw v (p .1) }
 
+-- reading: 12, 14, 13, 10, 15, 5
 module _ (bytes : List ℕ) (asked : Label) where
+  pub read-sheet-table : (room : ℕ)
+      → numbered (readSheetRows bytes asked room)
+      ≡ (12, not (leb 32 (length bytes) && same (67 ∷ 85 ∷ 84 ∷ 83 ∷ []) (take 4 (trailerBytes bytes))))
+      ∷ (14, not (trailerRight (length bytes - 32) (trailerOf bytes)))
+      ∷ (13, not (checked cutsForm (sheetIn bytes)))
+      ∷ (10, not (wellFormed (trailerOf bytes .settings .minimum) (trailerOf bytes .settings .maximum) (listIn bytes)))
+      ∷ (15, not (eqb (trailerOf bytes .label) (byteOf asked)))
+      ∷ (5, ltb room (trailerOf bytes .count))
+      ∷ []
+  unfolding readSheetRows cleanRows hasTrailer hasList numbered
+  read-sheet-table room = refl
+
   pub read-sheet-rows : (room : ℕ) → sheetNumber (readSheetAnswer bytes asked room) ≡ firstRow (readSheetRows bytes asked room)
   unfolding sheetNumber readSheetAnswer
   read-sheet-rows room = through sheetNumber (verdict (readSheetRows bytes asked room)) sheet.Refused _

@@ -7,8 +7,8 @@ use Rattle.terms.specs.declared.Settings.{Settings}
 use Rattle.signature.specs.Polynomials.{rem}
 use Rattle.signature.specs.Signatures.{degree, lowPart}
 use Rattle.terms.specs.Answers.{answerNumber}
-use Rattle.cutting.specs.Marks.{mark, cutList}
-use Rattle.board.specs.Recording.{segmentAnswer, segmentBoard}
+use Rattle.cutting.specs.Marks.{cutList}
+use Rattle.board.specs.Recording.{segmentAnswer, segmentLeaves}
 
 -- log A: 60 bytes, all 0 but byte 47, which is 1; K 8
 unfoldable pub logA : List ℕ
@@ -34,8 +34,7 @@ unfoldable pub Holds : Figure → Type 0
 Holds (power k value) = rem degree lowPart (2 ^ k) ≡ value
 Holds (cuts settings log list) = cutList settings log ≡ list
 Holds (segment settings log size width i board number after) =
-    (answerNumber (segmentAnswer (mark settings log) settings (length log) size i width (length board)) ≡ number)
-    × (segmentBoard (mark settings log) settings (length log) size i width board ≡ after)
+    (answerNumber (segmentAnswer settings log size width i (length board)) ≡ number) × (segmentLeaves settings log size width i board ≡ after)
 
 -- each figure of a table holds
 pub data Each : List Figure → Type 0 where

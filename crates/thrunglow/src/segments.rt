@@ -1,9 +1,8 @@
 // Segments recorded into a board, or into a bay lent alone, and the board merged.
 ghost use mathlib.Core.Path.{_≡_};
 ghost use lib.ListN.{length};
-ghost use Rattle.cutting.specs.Marks.{mark};
-ghost use Rattle.board.specs.Recording.{bayAnswer, bayAfter, segmentAnswer, segmentBoard};
-ghost use Rattle.board.specs.Merging.{mergeAnswer, mergeList};
+ghost use Rattle.board.specs.Recording.{recordAnswer, recordLeaves, segmentAnswer, segmentLeaves};
+ghost use Rattle.board.specs.Merging.{mergeAnswer, mergeLeaves};
 ghost use Rattle.thrunglow.specs.Outcomes.{outcomeOf};
 use super::answers::Outcome;
 use super::answers::numbered;
@@ -14,14 +13,14 @@ pub extern "C" fn thrunglow_segment(
     settings: Settings,
     log: &[u8],
     size: u64,
-    room: u64,
+    width: u64,
     index: u64,
     board: &mut [u64],
 ) -> Outcome
-    ensures { λ r. ⌜ r ≡ outcomeOf (segmentAnswer (mark settings (now (log .entry))) settings (length (now (log .entry))) size index room (length (now (board .entry)))) ⌝ }
-    ensures { λ r. ⌜ now (board .exit) ≡ segmentBoard (mark settings (now (log .entry))) settings (length (now (log .entry))) size index room (now (board .entry)) ⌝ }
+    ensures answer { λ r. ⌜ r ≡ outcomeOf (segmentAnswer settings (now (log .entry)) size width index (length (now (board .entry)))) ⌝ }
+    ensures board { λ r. ⌜ now (board .exit) ≡ segmentLeaves settings (now (log .entry)) size width index (now (board .entry)) ⌝ }
 {
-    numbered(board::segment::segment(settings, log, size, room, index, board))
+    numbered(board::segment(settings, log, size, width, index, board))
 }
 
 #[no_mangle]
@@ -32,10 +31,10 @@ pub extern "C" fn thrunglow_record(
     index: u64,
     bay: &mut [u64],
 ) -> Outcome
-    ensures { λ r. ⌜ r ≡ outcomeOf (bayAnswer (mark settings (now (log .entry))) settings (length (now (log .entry))) size index (length (now (bay .entry)))) ⌝ }
-    ensures { λ r. ⌜ now (bay .exit) ≡ bayAfter (mark settings (now (log .entry))) settings (length (now (log .entry))) size index (now (bay .entry)) ⌝ }
+    ensures answer { λ r. ⌜ r ≡ outcomeOf (recordAnswer settings (now (log .entry)) size (length (now (bay .entry))) index) ⌝ }
+    ensures bay { λ r. ⌜ now (bay .exit) ≡ recordLeaves settings (now (log .entry)) size index (now (bay .entry)) ⌝ }
 {
-    numbered(board::segment::record_bay(settings, log, size, index, bay))
+    numbered(board::record(settings, log, size, index, bay))
 }
 
 #[no_mangle]
@@ -43,12 +42,12 @@ pub extern "C" fn thrunglow_merge(
     settings: Settings,
     bytes: u64,
     size: u64,
-    room: u64,
+    width: u64,
     board: &[u64],
     list: &mut [u64],
 ) -> Outcome
-    ensures { λ r. ⌜ r ≡ outcomeOf (mergeAnswer settings bytes size room (now (board .entry)) (length (now (list .entry)))) ⌝ }
-    ensures { λ r. ⌜ now (list .exit) ≡ mergeList settings bytes size room (now (board .entry)) (now (list .entry)) ⌝ }
+    ensures answer { λ r. ⌜ r ≡ outcomeOf (mergeAnswer settings bytes size width (now (board .entry)) (length (now (list .entry)))) ⌝ }
+    ensures list { λ r. ⌜ now (list .exit) ≡ mergeLeaves settings bytes size width (now (board .entry)) (now (list .entry)) ⌝ }
 {
-    numbered(board::merging::merge(settings, bytes, size, room, board, list))
+    numbered(board::merge(settings, bytes, size, width, board, list))
 }

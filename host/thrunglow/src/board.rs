@@ -6,31 +6,31 @@ use std::sync::Mutex;
 use std::thread;
 
 /// Records segment `index` of `size` bytes into its bay, and says how many entries that took: 2 plus its offsets. The bay's length
-/// is the room R; the board is all the bays, one after the other. A bay that holds zeros is not done.
+/// is the width R; the board is all the bays, one after the other. A bay that holds zeros is not done.
 pub fn record(settings: Settings, log: &[u8], size: u64, index: u64, bay: &mut [u64]) -> Result<usize, Error> {
     let outcome = raw::record(settings, log, size, index, bay);
     Error::unless_fine(outcome.number)?;
     Ok(outcome.count as usize)
 }
 
-/// The cuts of a log of that many bytes from a board whose bays of `room` entries are all recorded.
+/// The cuts of a log of that many bytes from a board whose bays of `width` entries are all recorded.
 ///
 /// ```
 /// use thrunglow::{Settings, cut_log, merge, record};
 ///
 /// let log = [0; 200_000];
-/// let (size, room) = (65_536, 100);
-/// let mut board = vec![0; log.len().div_ceil(size) * room];
-/// for (index, bay) in board.chunks_mut(room).enumerate().rev() {
+/// let (size, width) = (65_536, 100);
+/// let mut board = vec![0; log.len().div_ceil(size) * width];
+/// for (index, bay) in board.chunks_mut(width).enumerate().rev() {
 ///     record(Settings::HOUSE, &log, size as u64, index as u64, bay)?;
 /// }
-/// let cuts = merge(Settings::HOUSE, log.len() as u64, size as u64, room as u64, &board)?;
+/// let cuts = merge(Settings::HOUSE, log.len() as u64, size as u64, width as u64, &board)?;
 /// assert_eq!(cuts, cut_log(Settings::HOUSE, &log)?);
 /// # Ok::<(), thrunglow::Error>(())
 /// ```
-pub fn merge(settings: Settings, bytes: u64, size: u64, room: u64, board: &[u64]) -> Result<Vec<u64>, Error> {
+pub fn merge(settings: Settings, bytes: u64, size: u64, width: u64, board: &[u64]) -> Result<Vec<u64>, Error> {
     let merged_into = |list: &mut [u64]| {
-        let outcome = raw::merge(settings, bytes, size, room, board, list);
+        let outcome = raw::merge(settings, bytes, size, width, board, list);
         Error::unless_fine(outcome.number).map(|()| outcome.count as usize)
     };
     // With no list lent, every refusal that comes before the list's room is answered before memory is asked for.

@@ -65,7 +65,7 @@ unsafe extern "C" {
         log: *const u8,
         log_length: usize,
         size: u64,
-        room: u64,
+        width: u64,
         index: u64,
         board: *mut u64,
         board_length: usize,
@@ -83,7 +83,7 @@ unsafe extern "C" {
         settings: Settings,
         bytes: u64,
         size: u64,
-        room: u64,
+        width: u64,
         board: *const u64,
         board_length: usize,
         list: *mut u64,
@@ -142,11 +142,11 @@ pub fn cut_log(settings: Settings, log: &[u8], list: &mut [u64]) -> Outcome {
     unsafe { thrunglow_cut_log(settings, log.as_ptr(), log.len(), list.as_mut_ptr(), list.len()) }
 }
 
-/// Records segment `index` of `size` bytes into its bay of a board of bays of `room` entries.
-pub fn segment(settings: Settings, log: &[u8], size: u64, room: u64, index: u64, board: &mut [u64]) -> Outcome {
+/// Records segment `index` of `size` bytes into its bay of a board of bays of `width` entries.
+pub fn segment(settings: Settings, log: &[u8], size: u64, width: u64, index: u64, board: &mut [u64]) -> Outcome {
     let (start, length) = (board.as_mut_ptr(), board.len());
     // SAFETY: each pointer goes with its slice's own length; the log is only read, the board is ours alone to write.
-    unsafe { thrunglow_segment(settings, log.as_ptr(), log.len(), size, room, index, start, length) }
+    unsafe { thrunglow_segment(settings, log.as_ptr(), log.len(), size, width, index, start, length) }
 }
 
 /// Records segment `index` of `size` bytes into a bay lent by itself.
@@ -156,10 +156,10 @@ pub fn record(settings: Settings, log: &[u8], size: u64, index: u64, bay: &mut [
 }
 
 /// Merges the board of a log of that many bytes. The list has room for floor(bytes / minimum) + 1 entries.
-pub fn merge(settings: Settings, bytes: u64, size: u64, room: u64, board: &[u64], list: &mut [u64]) -> Outcome {
+pub fn merge(settings: Settings, bytes: u64, size: u64, width: u64, board: &[u64], list: &mut [u64]) -> Outcome {
     let (start, length) = (list.as_mut_ptr(), list.len());
     // SAFETY: each pointer goes with its slice's own length; the board is only read, the list is ours alone to write.
-    unsafe { thrunglow_merge(settings, bytes, size, room, board.as_ptr(), board.len(), start, length) }
+    unsafe { thrunglow_merge(settings, bytes, size, width, board.as_ptr(), board.len(), start, length) }
 }
 
 /// Amends the old list where `removed` bytes at `at` were replaced by `added` bytes and `log` came of it. The list has room for

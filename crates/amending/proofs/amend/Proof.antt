@@ -11,7 +11,8 @@ use Rattle.terms.specs.Settings.{inRange}
 use Rattle.terms.proofs.Ranges.{ranges}
 use Rattle.terms.proofs.Verdicts.{asked, top, past, stopped, wrote}
 use Rattle.lists.specs.WellFormed.{wellFormed, lengthOf}
-use Rattle.amending.specs.Answers.{editFits, amendRows, partsAnswer, amendAnswer, amendLeaves}
+use Rattle.amending.specs.Answers.{editFits, amendRows, amendAnswer, amendLeaves}
+use Rattle.amending.specs.Inner.{partsAnswer}
 use Rattle.amending.specs.declared.Amendment.the-variants.{Refused}
 use Rattle.amending.proofs.amend.Statement.{statement}
 use Rattle.amending.proofs.amend.Tie as tie

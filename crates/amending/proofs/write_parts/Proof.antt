@@ -27,7 +27,7 @@ abbrev recutted : tie.After-put-moved2 → tie.After-recut
 recutted c = c .before .before .before .before .before
 
 -- what the contract's requires allow
-fine : (c : tie.Start) → Sound (c .args .old .now) (c .args .edit) (length (c .args .log .now))
+fine : (c : tie.Start) → Sound (c .args .old .now) (c .args .edit)
 fine c = sound _ _ _ _ _ (c .pre .0 .1) (c .pre .1 .0) (c .pre .1 .1)
 
 -- the front is part of the old list

@@ -1,4 +1,4 @@
--- `bays::judging::is_sound` meets its contract: the number, the rise, then the marker and steps.
+-- `board_bays::judging::is_sound` meets its contract: the number, the rise, then the marker and steps.
 use borrow.Author.Needs.{needs}
 use mathlib.Core.Path.{sym, _∙_}
 use native.Mathlib.Omega.{arith}
@@ -16,34 +16,43 @@ sub-if1-2 : tie.Need-sub-if1-2
 sub-if1-2 c = omega (arith, c .before .before .pre .1 .0)
 
 returns : tie.Need-returns
-returns c = too-many _ _ _ _ _ _ (c .if1 .taken)
+returns c = too-many _ _ _ _ _ (c .if1 .taken)
 
 mul-start : tie.Need-mul-start
 mul-start c =
     let start = c .before .before .before in
-    omega (arith, begins-below (start .args .size) (start .args .n) (omega (arith, start .pre .0 .large)) (start .args .i) (start .pre .0 .there), start .pre .0 .short)
+    omega (
+      arith,
+      begins-below (start .args .n) (start .args .size) (omega (arith, start .pre .0 .large)) (start .args .i) (start .pre .0 .there),
+      start .pre .0 .short,
+    )
 
 offsets-in-requires : tie.Need-offsets-in-requires
 unfolding offsetCount
-offsets-in-requires c κs = (c .before .before .before .pre .1 .0, c .before .before .before .pre .1 .1, c .if1 .left)
+offsets-in-requires c κs =
+    let begun = c .before .before .before in
+    (begun .pre .1 .0, begun .pre .1 .1, c .if1 .left)
 
 end-of-requires : tie.Need-end-of-requires
 end-of-requires c κs =
     let start = c .before .before .before .before in
-    let below = begins-below (start .args .size) (start .args .n) (omega (arith, start .pre .0 .large)) (start .args .i) (start .pre .0 .there) in
+    let below = begins-below (start .args .n) (start .args .size) (omega (arith, start .pre .0 .large)) (start .args .i) (start .pre .0 .there) in
     (omega arith, start .pre .0 .short, start .pre .0 .bounded)
 
 returns-2 : tie.Need-returns-2
 returns-2 c =
-    sym (sound-is _ _ _ _ _ _ (c .before .before .before .before .if1 .left) _ (c .before .before .end-of .ensures) _ (c .before .before .before .offsets-in .ensures)
+    let offsets-in = c .before .before .before in
+    sym (sound-is _ _ _ _ _ (offsets-in .before .if1 .left) _ (c .before .before .end-of .ensures) _ (offsets-in .offsets-in .ensures)
     ∙ rw (test-failed (c .before .rises-within .ensures) (c .if2 .taken)))
 
 returns-3 : tie.Need-returns-3
 returns-3 c =
+    let rises-within = c .before .before .before in
+    let offsets-in = rises-within .before .before in
     c .marker-fits .ensures
-    ∙ sym (sound-is _ _ _ _ _ _ (c .before .before .before .before .before .before .if1 .left) _ (c .before .before .before .before .end-of .ensures) _
-    (c .before .before .before .before .before .offsets-in .ensures)
-    ∙ rw (test-passed (c .before .before .before .rises-within .ensures) (c .before .before .if2 .left)))
+    ∙ sym (sound-is _ _ _ _ _ (offsets-in .before .if1 .left) _ (rises-within .before .end-of .ensures) _
+    (offsets-in .offsets-in .ensures)
+    ∙ rw (test-passed (rises-within .rises-within .ensures) (c .before .before .if2 .left)))
 
 pub is-sound-spec : {M : Type 1} → statement M
 is-sound-spec =

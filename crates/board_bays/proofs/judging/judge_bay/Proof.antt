@@ -1,4 +1,4 @@
--- `bays::judging::judge_bay` meets its contract: 8 before 9.
+-- `board_bays::judging::judge_bay` meets its contract: 8 before 9.
 use native.Mathlib.Omega.{arith}
 use mathlib.Core.Path.{ap}
 use mathlib.Core.Bool.{not}
@@ -16,7 +16,9 @@ unfolding bayRows
 returns c = judged-wrong top (ap not (not-done _ (c .if1 .taken)))
 
 is-sound-requires : tie.Need-is-sound-requires
-is-sound-requires c κs = (c .before .before .before .pre .0, (c .before .before .before .pre .1, is-done _ (c .if1 .left)))
+is-sound-requires c κs =
+    let start = c .before .before .before in
+    (start .pre .0, (start .pre .1, is-done _ (c .if1 .left)))
 
 returns-2 : tie.Need-returns-2
 unfolding bayRows

@@ -1,4 +1,4 @@
--- `bays::judging::marker_fits` meets its contract: segment 0, and any other.
+-- `board_bays::judging::marker_fits` meets its contract: segment 0, and any other.
 use borrow.Author.Needs.{needs}
 use borrow.Author.Tests.{eq-eqb, ne-eqb}
 use mathlib.Core.Path.{sym, _∙_}

@@ -1,4 +1,4 @@
--- `bays::judging::marker_listed` meets its contract. The invariant: the marker fits exactly where it does from place k on.
+-- `board_bays::judging::marker_listed` meets its contract. The invariant: the marker fits exactly where it does from place k on.
 use borrow.Author.Needs.{needs}
 use mathlib.Core.Path.{_≡_, refl, sym, _∙_}
 use Prim.Native.Nat.{_≤_, _-_}
@@ -9,7 +9,8 @@ use Rattle.board_bays.proofs.judging.marker_listed.Statement.{statement
 use Rattle.board_bays.proofs.judging.marker_listed.Tie as tie
 
 abbrev Inv-loop : tie.InvT-loop
-Inv-loop offsets marker minimum maximum k₀ k = (k ≤ length offsets) × (fromMarker minimum maximum marker offsets ≡ fromMarker minimum maximum marker (drop k offsets))
+Inv-loop offsets marker minimum maximum k₀ k =
+    (k ≤ length offsets) × (fromMarker minimum maximum marker offsets ≡ fromMarker minimum maximum marker (drop k offsets))
 
 abbrev μ-loop : tie.MeasureT-loop
 μ-loop offsets marker minimum maximum k₀ k = length offsets - k
@@ -18,7 +19,9 @@ loop-holds : tie.Need-loop-holds Inv-loop μ-loop
 loop-holds c = (search needs, refl)
 
 returns : tie.Need-returns Inv-loop μ-loop
-returns c = c .steps-within .ensures ∙ sym (c .before .before .before .before .before .loop .inv .1 ∙ marker-here _ _ (c .before .before .before .before .loop-test .taken) _ _ _ (c .before .before .if1 .taken))
+returns c =
+    let turn = c .before .before .before .before in
+    c .steps-within .ensures ∙ sym (turn .before .loop .inv .1 ∙ marker-here _ _ (turn .loop-test .taken) _ _ _ (c .before .before .if1 .taken))
 
 loop-again : tie.Need-loop-again Inv-loop μ-loop
 loop-again c = (search needs, c .before .before .before .loop .inv .1 ∙ marker-on _ _ (c .before .before .loop-test .taken) _ _ _ (c .if1 .left))

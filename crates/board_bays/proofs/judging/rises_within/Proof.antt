@@ -1,4 +1,4 @@
--- `bays::judging::rises_within` meets its contract. The invariant: the offsets rise exactly where those from place k on do.
+-- `board_bays::judging::rises_within` meets its contract. The invariant: the offsets rise exactly where those from place k on do.
 use borrow.Author.Needs.{needs}
 use mathlib.Core.Path.{_≡_, refl, sym, _∙_}
 use Prim.Native.Nat.{_≤_, _-_}
@@ -23,10 +23,14 @@ returns : tie.Need-returns Inv-loop μ-loop
 returns c = sym (c .before .before .before .loop .inv .1 ∙ rise-at _ _ (c .before .before .loop-test .taken) _ _ ∙ rw (le-ltb _ _ (c .if1 .taken)))
 
 returns-2 : tie.Need-returns-2 Inv-loop μ-loop
-returns-2 c = sym (c .before .before .before .before .loop .inv .1 ∙ rise-at _ _ (c .before .before .before .loop-test .taken) _ _ ∙ rw (lt-ltb _ _ (c .before .if1 .left), lt-leb _ _ (c .if2 .taken)))
+returns-2 c =
+    let turn = c .before .before .before in
+    sym (turn .before .loop .inv .1 ∙ rise-at _ _ (turn .loop-test .taken) _ _ ∙ rw (lt-ltb _ _ (c .before .if1 .left), lt-leb _ _ (c .if2 .taken)))
 
 loop-again : tie.Need-loop-again Inv-loop μ-loop
-loop-again c = (search needs, c .before .before .before .before .loop .inv .1 ∙ rise-at _ _ (c .before .before .before .loop-test .taken) _ _ ∙ rw (lt-ltb _ _ (c .before .if1 .left), le-leb _ _ (c .if2 .left)))
+loop-again c =
+    let turn = c .before .before .before in
+    (search needs, turn .before .loop .inv .1 ∙ rise-at _ _ (turn .loop-test .taken) _ _ ∙ rw (lt-ltb _ _ (c .before .if1 .left), le-leb _ _ (c .if2 .left)))
 
 returns-3 : tie.Need-returns-3 Inv-loop μ-loop
 unfolding risesWithin

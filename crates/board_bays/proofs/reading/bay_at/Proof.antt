@@ -1,4 +1,4 @@
--- `bays::reading::bay_at` meets its contract.
+-- `board_bays::reading::bay_at` meets its contract.
 use borrow.Author.Needs.{needs}
 use Rattle.board_bays.proofs.Ranges.{bay-lent}
 use Rattle.board_bays.proofs.reading.bay_at.Statement.{statement}

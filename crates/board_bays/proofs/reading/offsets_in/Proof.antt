@@ -1,4 +1,4 @@
--- `bays::reading::offsets_in` meets its contract.
+-- `board_bays::reading::offsets_in` meets its contract.
 use borrow.Author.Needs.{needs}
 use mathlib.Core.Path.{_≡_, ap}
 use mathlib.Core.List.{List}

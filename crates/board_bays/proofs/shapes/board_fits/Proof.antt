@@ -1,4 +1,4 @@
--- `bays::shapes::board_fits` meets its contract: the board is compared by dividing, so that nothing wraps.
+-- `board_bays::shapes::board_fits` meets its contract: the board is compared by dividing, so that nothing wraps.
 use borrow.Author.Needs.{needs}
 use borrow.Author.Tests.{le-leb, lt-leb}
 use native.Mathlib.Omega.{arith}
@@ -20,11 +20,13 @@ segments-of-requires c κs = sizes _ _ (test-passed (c .before .shape-fits .ensu
 
 returns-2 : tie.Need-returns-2
 unfolding boardFits
-returns-2 c = let fine = test-passed (c .before .before .before .shape-fits .ensures) (c .before .before .if1 .left) in rw (fine, lt-leb _ _ (too-few _ _ _ _ (sizes _ _ fine .2) (c .before .segments-of .ensures) (c .if2 .taken)))
+returns-2 c = let fine = test-passed (c .before .before .before .shape-fits .ensures) (c .before .before .if1 .left) in
+    rw (fine, lt-leb _ _ (too-few _ _ _ _ (sizes _ _ fine .2) (c .before .segments-of .ensures) (c .if2 .taken)))
 
 returns-3 : tie.Need-returns-3
 unfolding boardFits
-returns-3 c = let fine = test-passed (c .before .before .before .shape-fits .ensures) (c .before .before .if1 .left) in rw (fine, le-leb _ _ (long-enough _ _ _ _ (sizes _ _ fine .2) (c .before .segments-of .ensures) (c .if2 .left)))
+returns-3 c = let fine = test-passed (c .before .before .before .shape-fits .ensures) (c .before .before .if1 .left) in
+    rw (fine, le-leb _ _ (long-enough _ _ _ _ (sizes _ _ fine .2) (c .before .segments-of .ensures) (c .if2 .left)))
 
 pub board-fits-spec : {M : Type 1} → statement M
 board-fits-spec =

@@ -1,4 +1,4 @@
--- `bays::shapes::judge` meets its contract: each `return` stands at its row.
+-- `board_bays::shapes::judge` meets its contract: each `return` stands at its row.
 use borrow.Author.Needs.{needs}
 use borrow.Author.Tests.{le-ltb, lt-ltb}
 use Rattle.terms.proofs.Verdicts.{asked, top, past, judged-wrong, judged-fine}

@@ -1,4 +1,4 @@
--- `bays::shapes::shape_fits` meets its contract, a test at a time.
+-- `board_bays::shapes::shape_fits` meets its contract, a test at a time.
 use borrow.Author.Tests.{le-leb, lt-leb}
 use Rattle.board_bays.specs.Segments.{sizeInRange, shapeFits}
 use Rattle.board_bays.proofs.shapes.shape_fits.Statement.{statement}

@@ -1,4 +1,4 @@
--- `recording::marks::is_marker` meets its contract.
+-- `board_record::marks::is_marker` meets its contract.
 use borrow.Author.Needs.{needs}
 use borrow.Author.Tests.{le-leb, lt-leb}
 use Rattle.board_record.specs.Records.{isMarker}

@@ -1,21 +1,52 @@
--- `walk::reading::read_offset` meets its contract: the forced cuts below the offset, then the offset if it is far enough.
+-- `board_walk::reading::read_offset` meets its contract: the forced cuts below the offset, then the offset if it is far enough.
 use borrow.Author.Needs.{needs}
 use native.Mathlib.Omega.{arith}
 use Rattle.board_walk.proofs.Walks.{forced-below, offset-passed, offset-cut}
 use Rattle.board_walk.proofs.reading.read_offset.Statement.{statement}
 use Rattle.board_walk.proofs.reading.read_offset.Tie as tie
 
+-- the places of the code that the answers look back to
+abbrev entry : tie.After-force-cuts → tie.Start
+entry c = c .before .before .before
+
+abbrev after-force-cuts-of-struct-known : tie.After-struct-known → tie.After-force-cuts
+after-force-cuts-of-struct-known c = c .before .before .before
+
+abbrev after-force-cuts : tie.After-put → tie.After-force-cuts
+after-force-cuts c = after-force-cuts-of-struct-known (c .before .before .before)
+
+abbrev after-put : tie.After-struct-known2 → tie.After-put
+after-put c = c .before .before .before
+
 sub-if1 : tie.Need-sub-if1
-sub-if1 c = omega (arith, forced-below 0 _ _ _ _ _ _ (c .before .before .before .before .before .before .pre .2) (c .before .before .before .before .before .before .pre .1) (c .before .before .before .before .before .before .pre .0) (c .before .before .before .force-cuts .ensures))
+sub-if1 c =
+    let force-cuts = after-force-cuts-of-struct-known c in
+    let start = entry force-cuts in
+    omega (arith, forced-below 0 _ _ _ _ _ _ (start .pre .2) (start .pre .1) (start .pre .0) (force-cuts .force-cuts .ensures))
 
 returns : tie.Need-returns
-returns c = offset-passed _ _ _ _ _ _ _ (c .before .before .before .before .before .before .before .pre .2) (c .before .before .before .before .before .before .before .pre .1) (c .before .before .before .before .before .before .before .pre .0) (c .before .before .before .before .force-cuts .ensures) (c .if1 .taken)
+returns c =
+    let force-cuts = after-force-cuts-of-struct-known (c .before) in
+    let start = entry force-cuts in
+    offset-passed _ _ _ _ _ _ _ (start .pre .2) (start .pre .1) (start .pre .0) (force-cuts .force-cuts .ensures) (c .if1 .taken)
 
 add-t9 : tie.Need-add-t9
-add-t9 c = omega (arith, forced-below 0 _ _ _ _ _ _ (c .before .before .before .before .before .before .before .before .before .before .before .before .pre .2) (c .before .before .before .before .before .before .before .before .before .before .before .before .pre .1) (c .before .before .before .before .before .before .before .before .before .before .before .before .pre .0) (c .before .before .before .before .before .before .before .before .before .force-cuts .ensures), c .before .before .before .before .before .before .before .before .before .force-cuts .ensures .behind)
+add-t9 c =
+    let force-cuts = after-force-cuts (after-put c) in
+    let start = entry force-cuts in
+    omega (
+      arith,
+      forced-below 0 _ _ _ _ _ _ (start .pre .2) (start .pre .1) (start .pre .0) (force-cuts .force-cuts .ensures),
+      force-cuts .force-cuts .ensures .behind,
+    )
 
 returns-2 : tie.Need-returns-2
-returns-2 c = offset-cut _ _ _ _ _ _ _ (c .before .before .before .before .before .before .before .before .before .before .before .before .pre .2) (c .before .before .before .before .before .before .before .before .before .before .before .before .pre .1) (c .before .before .before .before .before .before .before .before .before .before .before .before .pre .0) (c .before .before .before .before .before .before .before .before .before .force-cuts .ensures) (c .before .before .before .before .before .if1 .left) (c .before .before .before .put .ensures)
+returns-2 c =
+    let put = after-put c in
+    let force-cuts = after-force-cuts put in
+    let start = entry force-cuts in
+    offset-cut _ _ _ _ _ _ _ (start .pre .2) (start .pre .1) (start .pre .0) (force-cuts .force-cuts .ensures) (put .before .before .if1 .left)
+    (put .put .ensures)
 
 pub read-offset-spec : {M : Type 1} → statement M
 read-offset-spec =

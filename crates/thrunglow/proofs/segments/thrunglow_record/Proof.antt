@@ -6,7 +6,7 @@ use Rattle.thrunglow.proofs.segments.thrunglow_record.Statement.{statem
 use Rattle.thrunglow.proofs.segments.thrunglow_record.Tie as tie
 
 returns : tie.Need-returns
-returns c = (c .numbered .ensures ∙ ap outcomeOf (c .before .before .before .record-bay .ensures .0), c .before .before .before .record-bay .ensures .1)
+returns c = (c .numbered .ensures ∙ ap outcomeOf (c .before .before .before .record .ensures .0), c .before .before .before .record .ensures .1)
 
 pub thrunglow-record-spec : {M : Type 1} → statement M
 thrunglow-record-spec =
