@@ -1,11 +1,10 @@
 -- Amending: its rows of the table, what it leaves and counts, and demand 3, the amended list.
-use Prim.Native.Nat.{ℕ, _+_, _/_, _^_, _≤_, _<_}
+use Prim.Native.Nat.{ℕ, _+_, _≤_, _<_}
 use mathlib.Core.Path.{_≡_, refl, sym, _∙_}
-use mathlib.Core.Bool.{true, not}
+use mathlib.Core.Bool.{true}
 use mathlib.Core.Logic.{_↔_}
-use mathlib.Core.List.{List, [], _∷_, _++_}
+use mathlib.Core.List.{List, _++_}
 use native.Mathlib.Omega.{arith}
-use lib.Dec.{ltb}
 use lib.ListN.{length, getD}
 use borrow.Author.Tests.{ltb-false}
 use Rattle.laws.proofs.Cases.{by-test}
@@ -38,7 +37,6 @@ use Rattle.amending.proofs.Stretch.{stretch-parts}
 use Rattle.amending.proofs.Fitting.{edit-told, edit-fits}
 use Rattle.amending.proofs.Told.{front-told, recut-told}
 use Rattle.amending.proofs.Chained.{well-formed-again, new-length, meeting-there}
-use Rattle.promises.specs.Tables.{numbered}
 use Rattle.promises.specs.Amendments.{Counts, Counted, AsAfresh}
 
 none-holds : (v : Verdict) → ruled v numberOf 0 ≡ 0 → v ≡ Fine
@@ -55,19 +53,6 @@ amend-uncounted (Amended f r b) refusal = absurd (refusal refl)
 amend-uncounted (Refused why) refusal = record { kept = refl; anew = refl; moved = refl }
 
 module _ (settings : Settings) (old : List ℕ) (edit : Edit) (log : List ℕ) where
-  -- document 01's order: 1, 10, 11, 2, 5; and the guard
-  pub amend-table : (room : ℕ)
-      → numbered (amendRows settings old edit log room)
-      ≡ (1, not (inRange settings))
-      ∷ (10, not (wellFormed (settings .minimum) (settings .maximum) old))
-      ∷ (11, not (editFits (lengthOf old) edit (length log)))
-      ∷ (2, ltb (2 ^ 40) (length log))
-      ∷ (5, ltb room (length log / settings .minimum + 1))
-      ∷ (17, ltb room (length (amendedList (newCutsOf settings log) old edit)))
-      ∷ []
-  unfolding numbered amendRows
-  amend-table room = refl
-
   pub amend-rows : (room : ℕ) → amendmentNumber (amendAnswer settings old edit log room) ≡ firstRow (amendRows settings old edit log room)
   unfolding amendmentNumber amendAnswer
   amend-rows room = through amendmentNumber (verdict (amendRows settings old edit log room)) Refused (counts (newCutsOf settings log) old edit)
