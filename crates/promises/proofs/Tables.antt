@@ -50,12 +50,12 @@ bays-table : (settings : Settings) (n size width : ℕ) (board : List ℕ) (late
     → numbered (baysRows settings n size width board k i ++ later) ≡ eightNine settings n size width board (numbered later) k i
 unfolding baysRows bayRows numbered eightNine
 bays-table settings n size width board later zero i = refl
-bays-table settings n size width board later (suc k) i = ap (λ l. _ ∷ _ ∷ l) (bays-table settings n size width board later k (suc i))
+bays-table settings n size width board later (suc k) i = rw (bays-table settings n size width board later k (suc i))
 
 pub merge-table : (settings : Settings) (n size width : ℕ) (board : List ℕ) (room : ℕ)
     → numbered (mergeRows settings n size width board room) ≡ mergeTable settings n size width board room
 unfolding numbered mergeRows callRows mergeTable
-merge-table settings n size width board room = ap (λ l. _ ∷ _ ∷ _ ∷ _ ∷ l) (bays-table settings n size width board _ (segments n size) 0)
+merge-table settings n size width board room = rw (bays-table settings n size width board _ (segments n size) 0)
 
 pub amend-table : (settings : Settings) (old : List ℕ) (edit : Edit) (log : List ℕ) (room : ℕ)
     → numbered (amendRows settings old edit log room) ≡ amendTable settings old edit log room
