@@ -1,7 +1,7 @@
 -- The single pass: its rows, a carry in order, what its calls hand back and leave, and demand 2 for it.
-use Prim.Native.Nat.{ℕ, zero, suc, _+_, _-_, _≤_, _<_}
+use Prim.Native.Nat.{ℕ, zero, suc, _+_, _-_, _/_, _^_, _≤_, _<_}
 use mathlib.Core.Path.{_≡_, refl, sym, ap, _∙_}
-use mathlib.Core.Bool.{true}
+use mathlib.Core.Bool.{true, not}
 use mathlib.Core.Logic.{_↔_}
 use mathlib.Core.List.{List, [], _∷_, _++_, append-nil}
 use native.Mathlib.Nat.{add-zero}
@@ -36,21 +36,36 @@ use Rattle.lists.proofs.Written.{written-whole}
 use Rattle.pass.proofs.Prefix.{onward, rises}
 use Rattle.pass.proofs.Closing.{left, fits}
 use Rattle.pass.proofs.SinglePass as pass
+use Rattle.promises.specs.Tables.{numbered}
 use Rattle.promises.specs.OneList.{Lists}
-use Rattle.promises.specs.SinglePass.{numbered, freshTable, blockTable, closeTable, InOrder, zeroCarry, HandsBack, lastBytes, CarryOf}
+use Rattle.promises.specs.SinglePass.{InOrder, zeroCarry, HandsBack, lastBytes, CarryOf}
 use Rattle.promises.proofs.Successes.{succeeds, wrote-all}
 
--- the rows of each call are those of document 01, in its order
-pub fresh-table : (s : Settings) → numbered (freshRows s) ≡ freshTable s
-unfolding numbered freshRows freshTable
+-- document 01's orders. Fresh: 1. Block: 1, 3, 4, 2, 5; and the guard. Close: 1, 3, 4, 5
+pub fresh-table : (s : Settings) → numbered (freshRows s) ≡ (1, not (inRange s)) ∷ []
+unfolding numbered freshRows
 fresh-table s = refl
 
-pub block-table : (c : Carry) (block : List ℕ) (room : ℕ) → numbered (blockRows c block room) ≡ blockTable c block room
-unfolding numbered blockRows carryRows blockTable
+pub block-table : (c : Carry) (block : List ℕ) (room : ℕ)
+    → numbered (blockRows c block room)
+    ≡ (1, not (inRange (c .settings)))
+    ∷ (3, not (inOrder c))
+    ∷ (4, eqb (c .closed) 1)
+    ∷ (2, ltb (2 ^ 40) (c .taken + length block))
+    ∷ (5, ltb room (length block / c .settings .minimum + 1))
+    ∷ (17, ltb room (length (cutsIn c block)))
+    ∷ []
+unfolding numbered blockRows carryRows
 block-table c block room = refl
 
-pub close-table : (c : Carry) (room : ℕ) → numbered (closeRows c room) ≡ closeTable c room
-unfolding numbered closeRows carryRows closeTable
+pub close-table : (c : Carry) (room : ℕ)
+    → numbered (closeRows c room)
+    ≡ (1, not (inRange (c .settings)))
+    ∷ (3, not (inOrder c))
+    ∷ (4, eqb (c .closed) 1)
+    ∷ (5, ltb room 1)
+    ∷ []
+unfolding numbered closeRows carryRows
 close-table c room = refl
 
 zeros-told : (k : ℕ) (bytes : List ℕ) → allZero (take k bytes) ≡ true → (i : ℕ) → i < k → getD bytes i 0 ≡ 0
