@@ -14,7 +14,7 @@ use Rattle.signature.specs.Signatures.{degree, lowPart, number as numberOfBytes
 use Rattle.cutting.specs.Marks.{matches, mark, cutList}
 use Rattle.laws.specs.Over.{over}
 use Rattle.terms.specs.Settings.{inRange}
-use Rattle.terms.specs.Answers.{answerNumber}
+use Rattle.terms.specs.Answers.{answerNumber, answerCount}
 use Rattle.board_bays.specs.Segments.{sizeInRange, segments, segmentStart, segmentEnd, shapeFits, boardFits, segmentFits}
 use Rattle.board_bays.specs.Bays.{entries, bayOf}
 use Rattle.board_record.specs.Records.{marksAmong, marksIn, isMarker, prepend, recordAfter, slowRecord, segmentRecord}
@@ -42,15 +42,19 @@ same-lists (x ∷ xs) (y ∷ ys) e = let both = both-true e in ap₂ _∷_ (eqb-
 test : Figure → Bool
 test (power k value) = eqb (rem degree lowPart (2 ^ k)) value
 test (cuts settings log list) = sameLists (cutList settings log) list
-test (segment settings log size width i board number after) =
+test (segment settings log size width i board number count after) =
     eqb (answerNumber (segmentAnswer settings log size width i (length board))) number
-    && sameLists (segmentLeaves settings log size width i board) after
+    && (eqb (answerCount (segmentAnswer settings log size width i (length board))) count
+    && sameLists (segmentLeaves settings log size width i board) after)
 
 told : (f : Figure) → test f ≡ true → Holds f
 unfolding test Holds
 told (power k value) e = eqb-true _ _ e
 told (cuts settings log list) e = same-lists _ _ e
-told (segment settings log size width i board number after) e = let both = both-true e in (eqb-true _ _ (both .0), same-lists _ _ (both .1))
+told (segment settings log size width i board number count after) e =
+    let both = both-true e in
+    let rest = both-true (both .1) in
+    (eqb-true _ _ (both .0), eqb-true _ _ (rest .0), same-lists _ _ (rest .1))
 
 testAll : List Figure → Bool
 testAll [] = true
@@ -62,7 +66,7 @@ each [] e = none
 each (f ∷ fs) e = let both = both-true e in and-each (told f (both .0)) (each fs (both .1))
 
 passed : testAll starred ≡ true
-unfolding testAll test sameLists starred logA logC cutsFrom chain next firstMark mark matches signatureOf signature numberOfBytes rem divide foldDigits answerNumber segmentAnswer segmentLeaves recordFits recorded withBay bayOf callRows segmentRows verdict inRange sizeInRange segments segmentStart segmentEnd shapeFits boardFits segmentFits entries marksAmong marksIn isMarker prepend recordAfter slowRecord segmentRecord hop hops cutsUpTo over
+unfolding testAll test sameLists starred logA logC cutsFrom chain next firstMark mark matches signatureOf signature numberOfBytes rem divide foldDigits answerNumber answerCount segmentAnswer segmentLeaves recordFits recorded withBay bayOf callRows segmentRows verdict inRange sizeInRange segments segmentStart segmentEnd shapeFits boardFits segmentFits entries marksAmong marksIn isMarker prepend recordAfter slowRecord segmentRecord hop hops cutsUpTo over
 passed = refl
 
 pub figures : Each starred

@@ -6,6 +6,7 @@ use mathlib.Core.Logic.{_↔_}
 use mathlib.Core.List.{List}
 use native.Mathlib.Omega.{arith}
 use lib.Dec.{lit<}
+use lib.Pow.{pow-pos}
 use lib.ListN.{length}
 use borrow.Author.Tests.{leb-true, ltb-false, eqb-true, le-leb, eq-eqb}
 use Rattle.laws.proofs.Cases.{both-true}
@@ -19,7 +20,7 @@ use Rattle.terms.proofs.Ranges.{ranges}
 use Rattle.terms.proofs.Verdicts.{Leaves, through, clear, refused-leaves}
 use Rattle.lists.specs.Written.{writtenList}
 use Rattle.lists.specs.WellFormed.{wellFormed, lengthOf}
-use Rattle.lists.proofs.Reaching.{Reaches, there, step, reaches-long}
+use Rattle.lists.proofs.Reaching.{Reaches, there, step, reaches, fits, reaches-long}
 use Rattle.rule.specs.Rule.{OnePass}
 use Rattle.rule.proofs.Whole as rule
 use Rattle.signature.specs.Polynomials.{rem}
@@ -28,8 +29,34 @@ use Rattle.signature.proofs.Remainders.{rem-exactly}
 use Rattle.cutting.specs.Marks.{mark, matches, cutList}
 use Rattle.cutting.specs.Calls.{cutLogRows, cutLogAnswer, cutLogLeaves}
 use Rattle.cutting.proofs.Reaching as cutting
-use Rattle.promises.specs.OneList.{Marked, Pieces, no-more, last, piece, Lists}
+use Rattle.promises.specs.OneList.{InRange, Marked, Pieces, no-more, last, piece, Lists}
 use Rattle.promises.proofs.Successes.{wrote-all}
+
+-- settings in range are those of document 01, and no others
+pub settings-told : (s : Settings) → inRange s ≡ true ↔ InRange s
+unfolding inRange
+settings-told s = (
+  λ ok.
+      let known = ranges s ok in
+      record {
+        bits = (known .some-bits, known .few-bits);
+        target = (known .some-target, omega (arith, known .low-target, pow-pos (s .bits)));
+        minimum = known .window-fits;
+        maximum = known .bounded;
+        ordered = known .ordered;
+      },
+  λ told.
+      let low : s .target ≤ 2 ^ s .bits - 1 = omega (arith, told .target .1) in
+      rw (
+        le-leb _ _ (told .bits .0),
+        le-leb _ _ (told .bits .1),
+        le-leb _ _ (told .target .0),
+        le-leb _ _ low,
+        le-leb _ _ (told .minimum),
+        le-leb _ _ (told .maximum),
+        le-leb _ _ (told .ordered),
+      ),
+)
 
 told-of-mark : (s : Settings) (log : List ℕ) (p : ℕ) → mark s log p ≡ true → Marked s log p
 unfolding mark matches signatureOf signature
@@ -63,6 +90,20 @@ pieces-of there = no-more
 pieces-of (step up near far there) = last up near
 pieces-of {n = n} (step {x = x} up near far (step up′ near′ far′ more)) =
     let below : x < n = omega (arith, reaches-long more) in piece (far below) near below (pieces-of (step up′ near′ far′ more))
+
+as-pieces : {lo hi n c : ℕ} {l : List ℕ} → 0 < lo → Pieces lo hi n c l → Reaches lo hi n c l
+as-pieces positive no-more = there
+as-pieces positive (last up near) = step up near (λ h. absurd (omega arith)) there
+as-pieces positive (piece {start = start} {cut = cut} far near below rest) =
+    let up : start < cut = omega arith in step up near (λ h. far) (as-pieces positive rest)
+
+-- a list is well formed where it parts a log of at most 2^40 bytes into such pieces
+pub list-told : (lo hi : ℕ) → 0 < lo → (list : List ℕ) → wellFormed lo hi list ≡ true ↔ (Pieces lo hi (lengthOf list) 0 list × (lengthOf list ≤ 2 ^ 40))
+unfolding wellFormed lengthOf
+list-told lo hi positive list = (
+  λ formed. let (reach, short) = reaches lo hi 0 list formed in (pieces-of reach, short),
+  λ told. fits lo hi (told .1) (as-pieces positive (told .0)),
+)
 
 module _ (settings : Settings) (log : List ℕ) where
   module _ (ok : inRange settings ≡ true) where

@@ -12,6 +12,14 @@ use Rattle.terms.specs.Answers.{answerNumber, answerCount}
 use Rattle.signature.specs.Polynomials.{clmul}
 use Rattle.signature.specs.Signatures.{number, window, degree, lowPart}
 
+-- K from 1 to 31, target from 1 to 2^K - 1, minimum from 48 and maximum up to 16,777,216, with minimum at most maximum
+pub record InRange (s : Settings) : Type 0 where
+  pub bits : (1 ≤ s .bits) × (s .bits ≤ 31)
+  pub target : (1 ≤ s .target) × (s .target < 2 ^ s .bits)
+  pub minimum : 48 ≤ s .minimum
+  pub maximum : s .maximum ≤ 16_777_216
+  pub ordered : s .minimum ≤ s .maximum
+
 -- a mark lies from 48 to the log's end; the 48 bytes before it, as a polynomial, leave by x^31 + x^3 + 1 a remainder whose low K bits are the target
 pub record Marked (s : Settings) (log : List ℕ) (p : ℕ) : Type 0 where
   pub above : 48 ≤ p
