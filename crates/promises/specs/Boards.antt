@@ -1,8 +1,8 @@
 -- What the calls on a board leave and answer: document 01, "Segments and the board" and "Numbers answered".
-use Prim.Native.Nat.{ℕ, zero, suc, _+_, _*_, _≤_, _<_}
+use Prim.Native.Nat.{ℕ, zero, suc, _+_, _≤_}
 use mathlib.Core.Path.{_≡_}
 use mathlib.Core.Bool.{true}
-use mathlib.Core.List.{List, [], _∷_, map}
+use mathlib.Core.List.{List, _∷_, map}
 use lib.ListN.{length}
 use Rattle.laws.specs.Over.{over}
 use Rattle.terms.specs.Refusals.{numberOf}
