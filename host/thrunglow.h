@@ -3,8 +3,10 @@
  * A log is cut into pieces where its content says. A list of cuts has the offset where each piece ends, rising, the log's length
  * last. It belongs to the bytes and the settings alone: every way of cutting gives the same list.
  *
- * Every call takes any arguments. Memory is lent as a pointer and a length in entries, and none is kept; the pointer may be anything
- * where the length is 0. A call may run beside others on other threads as long as no memory that one writes is lent to another.
+ * Every call takes any numbers, bytes, carries, boards, lists and sheets, and answers them. Of memory it asks what C asks of any call: it is
+ * lent as a pointer and a length in entries, and none is kept; the pointer may be anything where the length is 0. What a call writes must not
+ * overlap what it reads: amend into another list than the old one. A call may run beside others on other threads as long as no memory
+ * that one writes is lent to another.
  *
  * A number of 0 is a success. Any other is a refusal: every value beside it is 0, a carry comes back unaltered, and lent memory is
  * untouched (but see thrunglow_segment). docs/HANDBOOK.md says what each number means and what to do.
@@ -36,14 +38,15 @@ typedef struct {
     uint64_t maximum;
 } thrunglow_Settings;
 
-/* What the single pass keeps between two blocks. `closed` is 0 or 1 and no other byte. */
+/* What the single pass keeps between two blocks. `closed` is 0 while it is open and 1 once it is closed; a carry with any other number
+ * is not in order. */
 typedef struct {
     thrunglow_Settings settings;
     uint64_t taken;
     uint64_t since;
     uint8_t window[48];
     uint32_t signature;
-    bool closed;
+    uint32_t closed;
 } thrunglow_Carry;
 
 /* The entries or bytes written. */

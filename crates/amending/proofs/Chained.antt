@@ -1,31 +1,26 @@
 -- From any well-formed old list, true or not: the amended list is well formed and ends at the new length, so that amendments can be
 -- chained; and a meeting exists where there is an old end and a new cut to meet it.
 use Prim.Native.Nat.{ℕ, _+_, _-_, _^_, _≤_, _<_}
-use mathlib.Core.Path.{_≡_, sym, ap, _∙_, subst}
-use mathlib.Core.Bool.{Bool, true, false}
-use mathlib.Core.List.{List, [], _∷_, _++_, map}
+use mathlib.Core.Path.{_≡_, sym, ap, subst}
+use mathlib.Core.Bool.{true}
+use mathlib.Core.List.{List, [], _∷_, _++_, map, append-nil}
 use native.Mathlib.Omega.{arith}
 use lib.ListN.{length, length-append}
-use borrow.Author.Tests.{le-leb, eq-eqb}
-use Rattle.laws.proofs.Cases.{by-test}
 use Rattle.laws.specs.Last.{lastOr}
-use Rattle.lists.specs.WellFormed.{isEmpty, wellFormed, lengthOf}
+use Rattle.lists.specs.WellFormed.{wellFormed, lengthOf}
 use Rattle.lists.proofs.Reaching.{Reaches, there, step, reaches, fits, reaches-last, reaches-after, reaches-on}
 use Rattle.amending.specs.declared.edits.Edit.{Edit}
-use Rattle.amending.specs.Parts.{front, pastFront, restart, before, since, wasAt, meets, moved, backFrom, recut, back, amendedList}
-use Rattle.amending.proofs.Split.{Split, here, later, split, joined, heads, since-is}
-use Rattle.amending.proofs.Front.{front-is, front-joined, restarts-low, past-some}
-use Rattle.amending.proofs.Meets.{placed}
+use Rattle.amending.specs.Parts.{front, pastFront, restart, moved, recut, back, amendedList}
+use Rattle.amending.specs.Told.{Every, none, also, Recut, meeting, no-meeting}
+use Rattle.amending.proofs.Front.{front-is, front-joined, restart-low, past-some}
+use Rattle.amending.proofs.Told.{recut-told}
 
--- a test that the last entry passes is passed somewhere
-finds : (test : ℕ → Bool) (b : ℕ) (l : List ℕ) → 0 < length l → test (lastOr b l) ≡ true → isEmpty (since test l) ≡ false
-unfolding isEmpty lastOr
-finds test b [] some h = absurd (omega arith)
-finds test b (x ∷ []) some h = rw (since-is test (here {r = []} h))
-finds test b (x ∷ y ∷ l) some h =
-    by-test (test x)
-    (λ e. rw (since-is test (here {r = y ∷ l} e)))
-    (λ e. rw (since-is test (later e (split test (y ∷ l)))) (finds test x (y ∷ l) (omega arith) h))
+-- what holds of each entry holds of the last
+every-last : {P : ℕ → Type 0} {l : List ℕ} (b : ℕ) → Every P l → 0 < length l → P (lastOr b l)
+unfolding lastOr
+every-last b none some = absurd (omega arith)
+every-last b (also h none) some = h
+every-last b (also {x = x} h (also h′ r)) some = every-last x (also h′ r) (omega arith)
 
 goes-on : {lo hi z b : ℕ} {l : List ℕ} → Reaches lo hi z b l → b < z → 0 < length l
 goes-on there h = absurd (omega arith)
@@ -34,7 +29,6 @@ goes-on (step up near far more) h = omega arith
 -- a list moved
 reaches-moved : {lo hi z b : ℕ} {l : List ℕ} (edit : Edit) (z′ b′ : ℕ) → b + edit .added ≡ b′ + edit .removed → z + edit .added ≡ z′ + edit .removed
     → Reaches lo hi z b l → Reaches lo hi z′ b′ (map (moved edit) l)
-unfolding moved
 reaches-moved {lo} {hi} edit z′ b′ p q there = let same : z′ ≡ b′ = omega arith in subst (λ b. Reaches lo hi z′ b []) same there
 reaches-moved {lo} {hi} {z} edit z′ b′ p q (step {b = b} {x = x} up near far more) =
     let up′ : b′ < x + edit .added - edit .removed = omega arith in
@@ -50,22 +44,18 @@ module _ (lo hi n′ : ℕ) (edit : Edit) (newCuts : ℕ → List ℕ) (reach : 
   past-reaches : Reaches lo hi (lengthOf old) (lastOr 0 (front (edit .at) old)) (pastFront (edit .at) old)
   past-reaches = reaches-after (front (edit .at) old) (pastFront (edit .at) old) old-reaches
 
-  low : lastOr 0 (front (edit .at) old) ≤ n′
-  low = let at-most : lastOr 0 (front (edit .at) old) ≤ edit .at = restarts-low (omega arith) (front-is (edit .at) old) in omega arith
+  low : restart (edit .at) old ≤ n′
+  low = omega (arith, restart-low (edit .at) old)
 
   -- the recut and the back go on from the restart to the new end
-  tail-reaches : (c : ℕ) (past news r : List ℕ) → Reaches lo hi (lengthOf old) c past → Reaches lo hi n′ c news
-      → Split (meets edit past) news (before (meets edit past) news) r → Reaches lo hi n′ c (before (meets edit past) news ++ backFrom edit past r)
-  unfolding backFrom moved
-  tail-reaches c past news [] old-run new-run parts = rw (joined parts) new-run
-  tail-reaches c past news (t ∷ after) old-run new-run parts =
-      let (x, rest, at) = placed edit past t (heads parts) in
-      let new-halves : Reaches lo hi n′ c (before (meets edit past) news ++ (t ∷ after)) = rw (joined parts) new-run in
-      let old-halves : Reaches lo hi (lengthOf old) c (before (wasAt edit t) past ++ (x ∷ rest)) = rw (at .whole) old-run in
-      let here : x + edit .added - edit .removed ≡ t = omega (arith, at .place) in
-      rw (at .onward) (reaches-on (before (meets edit past) news) (t ∷ after) (λ h. omega arith) new-halves
-      (turned (reaches-after (before (meets edit past) news) (t ∷ after) new-halves) here
-      (reaches-moved edit n′ t (at .place) ends (rest-of (reaches-after (before (wasAt edit t) past) (x ∷ rest) old-halves)))))
+  tail-reaches : {c e : ℕ} {past news r b : List ℕ} → Recut edit past n′ news r b e → Reaches lo hi (lengthOf old) c past → Reaches lo hi n′ c news → Reaches lo hi n′ c (r ++ b)
+  tail-reaches (no-meeting unmet) old-run new-run = rw append-nil new-run
+  tail-reaches {c} (meeting {recut = r} t x later passed rest is unmet far was place) old-run new-run =
+      let olds : Reaches lo hi (lengthOf old) c (passed ++ (x ∷ rest)) = rw was at old-run in
+      let news : Reaches lo hi n′ c (r ++ (t ∷ later)) = rw is at new-run in
+      let here : moved edit x ≡ t = omega arith in
+      reaches-on r (t ∷ later) (λ h. omega arith) news
+      (turned (reaches-after r (t ∷ later) news) here (reaches-moved edit n′ t place ends (rest-of (reaches-after passed (x ∷ rest) olds))))
     where
       rest-of : {z b x : ℕ} {l : List ℕ} → Reaches lo hi z b (x ∷ l) → Reaches lo hi z x l
       rest-of (step up near far more) = more
@@ -79,7 +69,7 @@ module _ (lo hi n′ : ℕ) (edit : Edit) (newCuts : ℕ → List ℕ) (reach : 
       let parts = front-is (edit .at) old in
       reaches-on (front (edit .at) old) (pastFront (edit .at) old)
       (λ h. past-some parts (omega (arith, length-append (front (edit .at) old) (pastFront (edit .at) old), ap length (front-joined parts)))) old-reaches
-      (tail-reaches (lastOr 0 (front (edit .at) old)) (pastFront (edit .at) old) (newCuts (lastOr 0 (front (edit .at) old))) _ past-reaches (reach _ low) (split _ _))
+      (tail-reaches (recut-told edit _ n′ _) past-reaches (reach _ low))
 
   pub well-formed-again : n′ ≤ 2 ^ 40 → wellFormed lo hi (amendedList newCuts old edit) ≡ true
   unfolding wellFormed
@@ -89,18 +79,12 @@ module _ (lo hi n′ : ℕ) (edit : Edit) (newCuts : ℕ → List ℕ) (reach : 
   unfolding lengthOf
   new-length = reaches-last amended-reaches
 
-  met-length : (past news r : List ℕ) → Split (meets edit past) news (before (meets edit past) news) r → isEmpty r ≡ false → 0 < length (backFrom edit past r)
-  unfolding backFrom isEmpty
-  met-length past news [] parts some = absurd (let z : _≡_ {A = ℕ} 0 1 = cc in omega arith)
-  met-length past news (t ∷ after) parts some = let (x, rest, at) = placed edit past t (heads parts) in rw (at .onward) (omega arith)
-
-  ends-meet : (c : ℕ) (past news : List ℕ) → 0 < length past → 0 < length news → Reaches lo hi (lengthOf old) c past → Reaches lo hi n′ c news
-      → isEmpty (since (meets edit past) news) ≡ false
-  unfolding meets wasAt
-  ends-meet c past news some-old some-new old-run new-run =
-      let far : edit .at + edit .added ≤ n′ = omega arith in
-      let place = finds (wasAt edit n′) c past some-old (eq-eqb _ _ (ap (λ z. z + edit .added) (reaches-last old-run) ∙ ends)) in
-      finds (meets edit past) c news some-new (rw (reaches-last new-run, le-leb _ n′ far, place))
+  -- without a meeting the new end would not be the old end, moved
+  ends-meet : {c e : ℕ} {past news r b : List ℕ} → Recut edit past n′ news r b e → 0 < length past → 0 < length news
+      → Reaches lo hi (lengthOf old) c past → Reaches lo hi n′ c news → 0 < length b
+  ends-meet (meeting t x later passed rest is unmet far was place) some-old some-new old-run new-run = omega arith
+  ends-meet {c} (no-meeting unmet) some-old some-new old-run new-run =
+      absurd (every-last c (rw (reaches-last new-run) at (every-last c unmet some-new) (omega arith)) some-old (rw (reaches-last old-run) ends))
 
   -- where the old log is not empty and the new one is longer than the last front cut, a meeting exists: the new end meets the old end
   pub meeting-there : 0 < lengthOf old → restart (edit .at) old < n′ → 0 < length (back newCuts old edit)
@@ -109,5 +93,4 @@ module _ (lo hi n′ : ℕ) (edit : Edit) (newCuts : ℕ → List ℕ) (reach : 
       let parts = front-is (edit .at) old in
       let new-run = reach (lastOr 0 (front (edit .at) old)) low in
       let old-some : 0 < length old = rw (front-joined parts) at (goes-on old-reaches some) in
-      met-length (pastFront (edit .at) old) (newCuts (lastOr 0 (front (edit .at) old))) _ (split _ _)
-      (ends-meet (lastOr 0 (front (edit .at) old)) (pastFront (edit .at) old) _ (past-some parts old-some) (goes-on new-run longer) past-reaches new-run)
+      ends-meet (recut-told edit _ n′ _) (past-some parts old-some) (goes-on new-run longer) past-reaches new-run

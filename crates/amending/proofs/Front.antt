@@ -8,7 +8,7 @@ use lib.ListN.{length, take, drop}
 use borrow.Author.Tests.{le-leb, lt-leb}
 use Rattle.laws.proofs.Cases.{by-lt}
 use Rattle.laws.specs.Last.{lastOr}
-use Rattle.amending.specs.Parts.{frontCount, front, pastFront, before}
+use Rattle.amending.specs.Parts.{frontCount, front, pastFront, restart, until}
 
 -- a list, its front and what follows it
 pub data Front (s : ℕ) : List ℕ → List ℕ → List ℕ → Type 0 where
@@ -49,16 +49,16 @@ module _ (s : ℕ) where
   count-none [] h = refl
   count-none (x ∷ l) h = absurd (omega arith)
 
-  pub count-is : (l : List ℕ) → (length l ≡ 0 → ⊥) → length (before (leb (s + 1)) (take (length l - 1) l)) ≡ frontCount s l
-  unfolding frontCount before
+  pub count-is : (l : List ℕ) → (length l ≡ 0 → ⊥) → length (until (leb (s + 1)) (take (length l - 1) l)) ≡ frontCount s l
+  unfolding frontCount until
   count-is [] some = absurd (some refl)
   count-is (x ∷ []) some = refl
   count-is (x ∷ y ∷ l) some =
-      let more : length (before (leb (s + 1)) (take (length (y ∷ l) - 1) (y ∷ l))) ≡ frontCount s (y ∷ l) = count-is (y ∷ l) (λ h. omega arith) in
+      let more : length (until (leb (s + 1)) (take (length (y ∷ l) - 1) (y ∷ l))) ≡ frontCount s (y ∷ l) = count-is (y ∷ l) (λ h. omega arith) in
       let place : length (x ∷ y ∷ l) - 1 ≡ suc (length (y ∷ l) - 1) = omega arith in
       by-lt s x
-      (λ h. rw (place, none-kept x y l h, le-leb (s + 1) x (omega arith), before))
-      (λ h. rw (place, one-kept x y l h, lt-leb (s + 1) x (omega arith), before) (ap suc more))
+      (λ h. rw (place, none-kept x y l h, le-leb (s + 1) x (omega arith), until))
+      (λ h. rw (place, one-kept x y l h, lt-leb (s + 1) x (omega arith), until) (ap suc more))
 
 pub front-joined : {s : ℕ} {l f p : List ℕ} → Front s l f p → f ++ p ≡ l
 front-joined none-old = refl
@@ -67,12 +67,16 @@ front-joined (beyond h) = refl
 front-joined (kept {x = x} h f) = ap (λ k. x ∷ k) (front-joined f)
 
 -- cutting restarts at or below s
-pub restarts-low : {s b : ℕ} {l f p : List ℕ} → b ≤ s → Front s l f p → lastOr b f ≤ s
+restarts-low : {s b : ℕ} {l f p : List ℕ} → b ≤ s → Front s l f p → lastOr b f ≤ s
 unfolding lastOr
 restarts-low low none-old = low
 restarts-low low old-end = low
 restarts-low low (beyond h) = low
 restarts-low low (kept h f) = restarts-low h f
+
+pub restart-low : (s : ℕ) (old : List ℕ) → restart s old ≤ s
+unfolding restart
+restart-low s old = restarts-low (omega arith) (front-is s old)
 
 -- the old end is left, if there is one
 pub past-some : {s : ℕ} {l f p : List ℕ} → Front s l f p → 0 < length l → 0 < length p

@@ -8,21 +8,20 @@ use native.Mathlib.Numerals.{add-one}
 use lib.ListN.{length, getD, set, drop, drop-of-length-le}
 use lib.Seq.{drop-cons, sets}
 use Rattle.laws.specs.Last.{lastOr}
-use Rattle.amending.specs.declared.edits.Edit.{Edit}
-use Rattle.amending.specs.Parts.{before, moved}
+use Rattle.amending.specs.Parts.{until, shifted}
 
 -- climbing while a test fails: the places passed and those still to pass make up the total
 module _ (test : ℕ → Bool) (l : List ℕ) (i : ℕ) where
-  pub climb-on : i < length l → test (getD l i 0) ≡ false → i + length (before test (drop i l)) ≡ (i + 1) + length (before test (drop (i + 1) l))
-  unfolding before
-  climb-on h e = rw (drop-cons l i 0 h, e, before, add-one) (omega arith)
+  pub climb-on : i < length l → test (getD l i 0) ≡ false → i + length (until test (drop i l)) ≡ (i + 1) + length (until test (drop (i + 1) l))
+  unfolding until
+  climb-on h e = rw (drop-cons l i 0 h, e, until, add-one) (omega arith)
 
-  pub climb-stops : i < length l → test (getD l i 0) ≡ true → i + length (before test (drop i l)) ≡ i
-  unfolding before
-  climb-stops h e = rw (drop-cons l i 0 h, e, before) (omega arith)
+  pub climb-stops : i < length l → test (getD l i 0) ≡ true → i + length (until test (drop i l)) ≡ i
+  unfolding until
+  climb-stops h e = rw (drop-cons l i 0 h, e, until) (omega arith)
 
-  pub climb-end : length l ≤ i → i + length (before test (drop i l)) ≡ i
-  unfolding before
+  pub climb-end : length l ≤ i → i + length (until test (drop i l)) ≡ i
+  unfolding until
   climb-end h = rw (drop-of-length-le l h) (omega arith)
 
 pub last-none : (l : List ℕ) → length l ≡ 0 → lastOr 0 l ≡ 0
@@ -39,13 +38,12 @@ last-at c (x ∷ y ∷ l) h =
     rw place (last-at x (y ∷ l) (omega arith))
 
 -- one entry more is moved and written
-pub put-on : (edit : Edit) (part list : List ℕ) (at i : ℕ) → i < length part
-    → sets list (at + i) (map (moved edit) (drop i part))
-    ≡ sets (set list (at + i) (getD part i 0 + edit .added - edit .removed)) (at + (i + 1)) (map (moved edit) (drop (i + 1) part))
-unfolding moved
-put-on edit part list at i h =
+pub put-on : (removed added : ℕ) (part list : List ℕ) (at i : ℕ) → i < length part
+    → sets list (at + i) (map (shifted removed added) (drop i part))
+    ≡ sets (set list (at + i) (shifted removed added (getD part i 0))) (at + (i + 1)) (map (shifted removed added) (drop (i + 1) part))
+put-on removed added part list at i h =
     let next : suc (at + i) ≡ at + (i + 1) = omega arith in
     rw (drop-cons part i 0 h, ← next, add-one)
 
-pub put-end : (edit : Edit) (part list : List ℕ) (at i : ℕ) → length part ≤ i → sets list (at + i) (map (moved edit) (drop i part)) ≡ list
-put-end edit part list at i h = rw (drop-of-length-le part h)
+pub put-end : (removed added : ℕ) (part list : List ℕ) (at i : ℕ) → length part ≤ i → sets list (at + i) (map (shifted removed added) (drop i part)) ≡ list
+put-end removed added part list at i h = rw (drop-of-length-le part h)

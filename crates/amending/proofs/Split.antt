@@ -6,8 +6,8 @@ use mathlib.Core.List.{List, [], _∷_, _++_}
 use native.Mathlib.Omega.{arith}
 use lib.ListN.{length, getD, drop}
 use Rattle.laws.proofs.Cases.{by-test}
-use Rattle.amending.specs.Parts.{before, since}
-use Rattle.amending.specs.Told.{Each, none, and-each}
+use Rattle.amending.specs.Parts.{until, from}
+use Rattle.amending.specs.Told.{Every, none, also}
 
 -- a list, its entries before the first that passes, and those from it on
 pub data Split (test : ℕ → Bool) : List ℕ → List ℕ → List ℕ → Type 0 where
@@ -31,37 +31,37 @@ pub heads : {test : ℕ → Bool} {t : ℕ} {l p r : List ℕ} → Split test l 
 heads (here e) = e
 heads (later e s) = heads s
 
-pub each-before : {test : ℕ → Bool} {l p r : List ℕ} → Split test l p r → Each (λ x. test x ≡ false) p
-each-before nowhere = none
-each-before (here e) = none
-each-before (later e s) = and-each e (each-before s)
+pub each-until : {test : ℕ → Bool} {l p r : List ℕ} → Split test l p r → Every (λ x. test x ≡ false) p
+each-until nowhere = none
+each-until (here e) = none
+each-until (later e s) = also e (each-until s)
 
 module _ (test : ℕ → Bool) where
-  pub split : (l : List ℕ) → Split test l (before test l) (since test l)
-  unfolding before since
+  pub split : (l : List ℕ) → Split test l (until test l) (from test l)
+  unfolding until from
   split [] = nowhere
-  split (x ∷ l) = by-test (test x) (λ e. rw (e, before, since) (here e)) (λ e. rw (e, before, since) (later e (split l)))
+  split (x ∷ l) = by-test (test x) (λ e. rw (e, until, from) (here e)) (λ e. rw (e, until, from) (later e (split l)))
 
-  pub before-is : {l p r : List ℕ} → Split test l p r → before test l ≡ p
-  unfolding before
-  before-is nowhere = refl
-  before-is (here e) = rw (e, before)
-  before-is (later {x = x} e s) = rw (e, before) (ap (λ k. x ∷ k) (before-is s))
+  pub until-is : {l p r : List ℕ} → Split test l p r → until test l ≡ p
+  unfolding until
+  until-is nowhere = refl
+  until-is (here e) = rw (e, until)
+  until-is (later {x = x} e s) = rw (e, until) (ap (λ k. x ∷ k) (until-is s))
 
-  pub since-is : {l p r : List ℕ} → Split test l p r → since test l ≡ r
-  unfolding since
-  since-is nowhere = refl
-  since-is (here e) = rw (e, since)
-  since-is (later e s) = rw (e, since) (since-is s)
+  pub from-is : {l p r : List ℕ} → Split test l p r → from test l ≡ r
+  unfolding from
+  from-is nowhere = refl
+  from-is (here e) = rw (e, from)
+  from-is (later e s) = rw (e, from) (from-is s)
 
   -- entries that fail another test, where they fail this one too, are passed by both
-  pub since-later : {other : ℕ → Bool} {l p r : List ℕ} → ((x : ℕ) → other x ≡ false → test x ≡ false) → Split other l p r → since test l ≡ since test r
-  unfolding since
-  since-later so nowhere = refl
-  since-later so (here e) = refl
-  since-later so (later {x = x} e s) = rw (so x e, since) (since-later so s)
+  pub from-later : {other : ℕ → Bool} {l p r : List ℕ} → ((x : ℕ) → other x ≡ false → test x ≡ false) → Split other l p r → from test l ≡ from test r
+  unfolding from
+  from-later so nowhere = refl
+  from-later so (here e) = refl
+  from-later so (later {x = x} e s) = rw (so x e, from) (from-later so s)
 
-  pub since-none : (l : List ℕ) → ((i : ℕ) → i < length l → test (getD l i 0) ≡ false) → since test l ≡ []
-  unfolding since
-  since-none [] fail = refl
-  since-none (x ∷ l) fail = rw (fail 0 (omega arith), since) (since-none l (λ i h. fail (suc i) (omega arith)))
+  pub from-none : (l : List ℕ) → ((i : ℕ) → i < length l → test (getD l i 0) ≡ false) → from test l ≡ []
+  unfolding from
+  from-none [] fail = refl
+  from-none (x ∷ l) fail = rw (fail 0 (omega arith), from) (from-none l (λ i h. fail (suc i) (omega arith)))

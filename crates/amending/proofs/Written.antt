@@ -13,18 +13,18 @@ use Rattle.laws.proofs.Sets.{sets-joined, sets-written}
 use Rattle.terms.specs.declared.Refusal.the-variants.{ListFull}
 use Rattle.lists.specs.WellFormed.{wellFormed, lengthOf}
 use Rattle.lists.proofs.Reaching.{reaches, reaches-long, entries-low, entries-rise}
-use Rattle.cutting.specs.WholeLog.{writtenList}
+use Rattle.lists.specs.Written.{writtenList}
 use Rattle.amending.specs.declared.edits.Edit.{Edit}
 use Rattle.amending.specs.declared.Amendment.the-variants.{Amended, Refused}
-use Rattle.amending.specs.Parts.{frontCount, front, pastFront, restart, moved, recut, back, amendedList}
+use Rattle.amending.specs.Parts.{frontCount, front, pastFront, restart, shifted, moved, recut, back, amendedList}
 use Rattle.terms.specs.Rows.{verdict}
-use Rattle.amending.specs.Answers.{editFits, partsAnswer}
-use Rattle.amending.specs.Inner.{Ascends, noEdit, Movable, Recutted}
+use Rattle.amending.specs.Answers.{editFits}
+use Rattle.amending.specs.Inner.{Ascends, Movable, Recutted, partsAnswer}
 use Rattle.amending.proofs.Fitting.{edit-told}
 use Rattle.amending.proofs.Front.{count-fits}
 
 -- what a well-formed list and an edit that fits it allow: every sum stays far below 64 bits
-pub record Sound (old : List ℕ) (edit : Edit) (bytes : ℕ) : Type 0 where
+pub record Sound (old : List ℕ) (edit : Edit) : Type 0 where
   pub rises : Ascends old
   pub low : (i : ℕ) → getD old i 0 ≤ 2 ^ 40
   pub few : length old ≤ 2 ^ 40
@@ -32,7 +32,7 @@ pub record Sound (old : List ℕ) (edit : Edit) (bytes : ℕ) : Type 0 where
   pub taken-low : edit .removed ≤ 2 ^ 40
 
 pub sound : (lo hi : ℕ) (old : List ℕ) (edit : Edit) (bytes : ℕ) → wellFormed lo hi old ≡ true → editFits (lengthOf old) edit bytes ≡ true → bytes ≤ 2 ^ 40
-    → Sound old edit bytes
+    → Sound old edit
 unfolding wellFormed lengthOf
 sound lo hi old edit bytes ok fits short =
     let (reach, n-low) = reaches lo hi 0 old ok in
@@ -45,21 +45,20 @@ sound lo hi old edit bytes ok fits short =
       taken-low = omega arith;
     }
 
-module _ {old : List ℕ} {edit : Edit} {bytes : ℕ} (fine : Sound old edit bytes) where
+module _ {old : List ℕ} {edit : Edit} (fine : Sound old edit) where
   -- the front is copied as it is; the back can be moved
-  pub front-movable : (kept : ℕ) → Movable noEdit (take kept old)
+  pub front-movable : (kept : ℕ) → Movable 0 0 (take kept old)
   front-movable kept i h =
       let below : i < kept = omega (arith, length-take kept old) in
       rw (getD-take kept old i 0 below) (omega (arith, fine .low i))
 
   pub back-movable : (kept passed : ℕ) → ((i : ℕ) → i < length (drop passed (drop kept old)) → edit .removed ≤ getD (drop passed (drop kept old)) i 0 + edit .added)
-      → Movable edit (drop passed (drop kept old))
+      → Movable (edit .removed) (edit .added) (drop passed (drop kept old))
   back-movable kept passed high i h =
       let is : getD (drop passed (drop kept old)) i 0 ≡ getD old (kept + (passed + i)) 0 = getD-drop passed (drop kept old) i 0 ∙ getD-drop kept old (passed + i) 0 in
       (high i h, omega (arith, is, fine .low (kept + (passed + i)), fine .place-low))
 
-unmoved : (l : List ℕ) → map (moved noEdit) l ≡ l
-unfolding moved
+unmoved : (l : List ℕ) → map (shifted 0 0) l ≡ l
 unmoved [] = refl
 unmoved (x ∷ l) = ap₂ _∷_ (omega arith) (unmoved l)
 
@@ -76,9 +75,9 @@ pub record Done (newCuts : ℕ → List ℕ) (old : List ℕ) (edit : Edit) (lis
   pub holds : list ≡ writtenList (amendedList newCuts old edit) list₀
   pub room : length list ≡ length list₀
 
-module _ (newCuts : ℕ → List ℕ) (old : List ℕ) (edit : Edit) (list₀ : List ℕ) {list₁ list₂ list : List ℕ} {kept from count passed bytes : ℕ}
-    (is : kept ≡ frontCount (edit .at) old) (copied : list₁ ≡ sets list₀ 0 (map (moved noEdit) (take kept old))) (restarts : from ≡ lastOr 0 (take kept old))
-    (made : Recutted edit bytes (drop kept old) (newCuts from) kept list₁ list₂ count passed)
+module _ (newCuts : ℕ → List ℕ) (old : List ℕ) (edit : Edit) (list₀ : List ℕ) {list₁ list₂ list : List ℕ} {kept start count passed bytes : ℕ}
+    (is : kept ≡ frontCount (edit .at) old) (copied : list₁ ≡ sets list₀ 0 (map (shifted 0 0) (take kept old))) (restarts : start ≡ lastOr 0 (take kept old))
+    (made : Recutted edit bytes (drop kept old) (newCuts start) kept list₁ list₂ count passed)
     (moves : list ≡ sets list₂ (kept + count) (map (moved edit) (drop passed (drop kept old)))) where
   -- the kept entries are the front, what follows it is past it, and cutting restarted where it should
   again : Recutted edit bytes (pastFront (edit .at) old) (newCuts (restart (edit .at) old)) kept list₁ list₂ count passed

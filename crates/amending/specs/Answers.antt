@@ -13,7 +13,7 @@ use Rattle.terms.specs.Rows.{Row, row, verdict, ruled, leaves}
 use Rattle.lists.specs.WellFormed.{wellFormed, lengthOf}
 use Rattle.rule.specs.Rule.{cutsFrom}
 use Rattle.cutting.specs.Marks.{mark}
-use Rattle.cutting.specs.WholeLog.{guard, writtenList}
+use Rattle.lists.specs.Written.{guard, writtenList}
 use Rattle.amending.specs.declared.edits.Edit.{Edit}
 use Rattle.amending.specs.declared.Amendment.{Amendment}
 use Rattle.amending.specs.declared.Amendment.the-variants.{Amended, Refused}
@@ -38,23 +38,19 @@ backOf (Amended f r b) = b
 backOf (Refused why) = 0
 
 -- the new log's cuts after the cut c
-abbrev pub newCutsOf : Settings → List ℕ → ℕ → List ℕ
+abbrev pub newCutsOf : (settings : Settings) (log : List ℕ) (c : ℕ) → List ℕ
 newCutsOf settings log c = cutsFrom (mark settings log) (settings .minimum) (settings .maximum) (length log) c
 
 -- s is not past the old length n, d not past what follows s, and the new length is n - d + e
-unfoldable pub editFits : (n : ℕ) → Edit → (bytes : ℕ) → Bool
+unfoldable pub editFits : (n : ℕ) (edit : Edit) (bytes : ℕ) → Bool
 editFits n edit bytes = leb (edit .at) n && (leb (edit .removed) (n - edit .at) && eqb bytes (n - edit .removed + edit .added))
 
--- the counts of the three parts
-abbrev pub counts : (ℕ → List ℕ) → List ℕ → Edit → Amendment
+-- a success
+abbrev pub counts : (newCuts : ℕ → List ℕ) (old : List ℕ) (edit : Edit) → Amendment
 counts newCuts old edit = Amended (length (front (edit .at) old)) (length (recut newCuts old edit)) (length (back newCuts old edit))
 
--- writing the three parts into a list with so many places: their counts, or the guard
-unfoldable pub partsAnswer : (ℕ → List ℕ) → List ℕ → Edit → (room : ℕ) → Amendment
-partsAnswer newCuts old edit room = ruled (verdict (guard (amendedList newCuts old edit) room ∷ [])) Refused (counts newCuts old edit)
-
 -- 1, 10, 11, 2, 5, and the guard
-unfoldable pub amendRows : Settings → List ℕ → Edit → List ℕ → ℕ → List Row
+unfoldable pub amendRows : (settings : Settings) (old : List ℕ) (edit : Edit) (log : List ℕ) (room : ℕ) → List Row
 amendRows settings old edit log room =
     row SettingsOutOfRange (not (inRange settings))
     ∷ row ListNotWellFormed (not (wellFormed (settings .minimum) (settings .maximum) old))
@@ -64,9 +60,11 @@ amendRows settings old edit log room =
     ∷ guard (amendedList (newCutsOf settings log) old edit) room
     ∷ []
 
-unfoldable pub amendAnswer : Settings → List ℕ → Edit → List ℕ → ℕ → Amendment
+-- the counts of the three parts
+unfoldable pub amendAnswer : (settings : Settings) (old : List ℕ) (edit : Edit) (log : List ℕ) (room : ℕ) → Amendment
 amendAnswer settings old edit log room = ruled (verdict (amendRows settings old edit log room)) Refused (counts (newCutsOf settings log) old edit)
 
-unfoldable pub amendList : Settings → List ℕ → Edit → List ℕ → List ℕ → List ℕ
-amendList settings old edit log list =
+-- the list at exit
+unfoldable pub amendLeaves : (settings : Settings) (old : List ℕ) (edit : Edit) (log list : List ℕ) → List ℕ
+amendLeaves settings old edit log list =
     leaves (verdict (amendRows settings old edit log (length list))) ListFull list (writtenList (amendedList (newCutsOf settings log) old edit) list)

@@ -10,64 +10,67 @@ use Rattle.lists.specs.WellFormed.{isEmpty}
 use Rattle.amending.specs.declared.edits.Edit.{Edit}
 
 -- how many old cuts are at most s, the old end excepted
-unfoldable pub frontCount : (s : ℕ) → List ℕ → ℕ
+unfoldable pub frontCount : (s : ℕ) (old : List ℕ) → ℕ
 frontCount s [] = 0
 frontCount s (oldEnd ∷ []) = 0
 frontCount s (cut ∷ following ∷ rest) = elim (leb cut s) [ true ↦ suc (frontCount s (following ∷ rest)) | false ↦ 0 ]
 
 -- front: old cuts at most s, the old end excepted
-unfoldable pub front : (s : ℕ) → List ℕ → List ℕ
+unfoldable pub front : (s : ℕ) (old : List ℕ) → List ℕ
 front s old = take (frontCount s old) old
 
-unfoldable pub pastFront : (s : ℕ) → List ℕ → List ℕ
+unfoldable pub pastFront : (s : ℕ) (old : List ℕ) → List ℕ
 pastFront s old = drop (frontCount s old) old
 
 -- cutting restarts at the last front cut, or 0
-unfoldable pub restart : (s : ℕ) → List ℕ → ℕ
+unfoldable pub restart : (s : ℕ) (old : List ℕ) → ℕ
 restart s old = lastOr 0 (front s old)
 
 -- the entries before the first that passes the test, and those from it on
-unfoldable pub before : (ℕ → Bool) → List ℕ → List ℕ
-before test [] = []
-before test (x ∷ rest) = elim (test x) [ true ↦ [] | false ↦ x ∷ before test rest ]
+unfoldable pub until : (test : ℕ → Bool) (l : List ℕ) → List ℕ
+until test [] = []
+until test (x ∷ rest) = elim (test x) [ true ↦ [] | false ↦ x ∷ until test rest ]
 
-unfoldable pub since : (ℕ → Bool) → List ℕ → List ℕ
-since test [] = []
-since test (x ∷ rest) = elim (test x) [ true ↦ x ∷ rest | false ↦ since test rest ]
+unfoldable pub from : (test : ℕ → Bool) (l : List ℕ) → List ℕ
+from test [] = []
+from test (x ∷ rest) = elim (test x) [ true ↦ x ∷ rest | false ↦ from test rest ]
 
 -- whether t - e + d, the place of t in the old log, is the old cut x
-unfoldable pub wasAt : Edit → (t x : ℕ) → Bool
+unfoldable pub wasAt : (edit : Edit) (t x : ℕ) → Bool
 wasAt edit t x = eqb (x + edit .added) (t + edit .removed)
 
 -- t is at or past the change's end, and its place in the old log is an old cut past the front
-unfoldable pub meets : Edit → (past : List ℕ) → (t : ℕ) → Bool
-meets edit past t = leb (edit .at + edit .added) t && not (isEmpty (since (wasAt edit t) past))
+unfoldable pub meets : (edit : Edit) (past : List ℕ) (t : ℕ) → Bool
+meets edit past t = leb (edit .at + edit .added) t && not (isEmpty (from (wasAt edit t) past))
 
 -- an old cut moved by e - d
-unfoldable pub moved : Edit → ℕ → ℕ
-moved edit x = x + edit .added - edit .removed
+abbrev pub shifted : (removed added x : ℕ) → ℕ
+shifted removed added x = x + added - removed
+
+abbrev pub moved : (edit : Edit) (x : ℕ) → ℕ
+moved edit x = shifted (edit .removed) (edit .added) x
 
 -- the first entry, or other where there is none
-unfoldable pub firstOr : (other : ℕ) → List ℕ → ℕ
+unfoldable pub firstOr : (other : ℕ) (l : List ℕ) → ℕ
 firstOr other [] = other
 firstOr other (x ∷ rest) = x
 
 -- the back, given the new cuts from the meeting on: the old cut at the meeting and all later ones, moved; none where nothing meets
-unfoldable pub backFrom : Edit → (past : List ℕ) → List ℕ → List ℕ
+unfoldable pub backFrom : (edit : Edit) (past news : List ℕ) → List ℕ
 backFrom edit past [] = []
-backFrom edit past (t ∷ later) = map (moved edit) (since (wasAt edit t) past)
+backFrom edit past (t ∷ later) = map (moved edit) (from (wasAt edit t) past)
 
 module _ (newCuts : ℕ → List ℕ) (old : List ℕ) (edit : Edit) where
   -- recut: one-pass from the last front cut (or 0) up to, not including, the meeting, the first new cut that meets
   unfoldable pub recut : List ℕ
-  recut = before (meets edit (pastFront (edit .at) old)) (newCuts (restart (edit .at) old))
+  recut = until (meets edit (pastFront (edit .at) old)) (newCuts (restart (edit .at) old))
 
   unfoldable pub back : List ℕ
-  back = backFrom edit (pastFront (edit .at) old) (since (meets edit (pastFront (edit .at) old)) (newCuts (restart (edit .at) old)))
+  back = backFrom edit (pastFront (edit .at) old) (from (meets edit (pastFront (edit .at) old)) (newCuts (restart (edit .at) old)))
 
   unfoldable pub amendedList : List ℕ
   amendedList = front (edit .at) old ++ (recut ++ back)
 
   -- the recut stretch is the new log's bytes from the restart to the meeting, or to the new end n where there is none
   unfoldable pub stretchEnd : (n : ℕ) → ℕ
-  stretchEnd n = firstOr n (since (meets edit (pastFront (edit .at) old)) (newCuts (restart (edit .at) old)))
+  stretchEnd n = firstOr n (from (meets edit (pastFront (edit .at) old)) (newCuts (restart (edit .at) old)))

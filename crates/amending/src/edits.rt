@@ -1,6 +1,5 @@
 // An edit of a log: at one place so many bytes were replaced by so many others. Document 01 calls the three numbers s, d and e.
 ghost use mathlib.Core.Path.{_≡_};
-ghost use Rattle.amending.specs.Inner.{noEdit};
 ghost use Rattle.amending.specs.Answers.{editFits};
 
 pub struct Edit {
@@ -24,16 +23,5 @@ impl Edit {
             return false;
         }
         bytes - self.added == n - self.removed
-    }
-}
-
-// The edit that moves nothing.
-pub fn nothing() -> Edit
-    ensures { λ r. ⌜ r ≡ noEdit ⌝ }
-{
-    Edit {
-        at: 0,
-        removed: 0,
-        added: 0,
     }
 }

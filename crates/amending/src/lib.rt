@@ -6,9 +6,10 @@ ghost use lib.ListN.{length};
 ghost use Rattle.terms.specs.Settings.{inRange};
 ghost use Rattle.terms.specs.Answers.{longest};
 ghost use Rattle.lists.specs.WellFormed.{wellFormed, lengthOf};
-ghost use Rattle.cutting.specs.WholeLog.{writtenList};
+ghost use Rattle.lists.specs.Written.{writtenList};
 ghost use Rattle.amending.specs.Parts.{amendedList};
-ghost use Rattle.amending.specs.Answers.{newCutsOf, editFits, partsAnswer, amendAnswer, amendList};
+ghost use Rattle.amending.specs.Answers.{newCutsOf, editFits, amendAnswer, amendLeaves};
+ghost use Rattle.amending.specs.Inner.{partsAnswer};
 
 pub mod edits;
 mod meeting;
@@ -35,20 +36,20 @@ fn write_parts(
 ) -> Amendment
     requires { ⌜ (inRange settings ≡ true) × (wellFormed (settings .minimum) (settings .maximum) (now old) ≡ true) ⌝ }
     requires { ⌜ (editFits (lengthOf (now old)) edit (length (now log)) ≡ true) × (length (now log) ≤ longest) ⌝ }
-    ensures { λ r. ⌜ r ≡ partsAnswer (newCutsOf settings (now (log .entry))) (now (old .entry)) edit (length (now (list .entry))) ⌝ }
-    ensures { λ r. ⌜ now (list .exit) ≡ writtenList (amendedList (newCutsOf settings (now (log .entry))) (now (old .entry)) edit) (now (list .entry)) ⌝ }
+    ensures answer { λ r. ⌜ r ≡ partsAnswer (newCutsOf settings (now (log .entry))) (now (old .entry)) edit (length (now (list .entry))) ⌝ }
+    ensures list { λ r. ⌜ now (list .exit) ≡ writtenList (amendedList (newCutsOf settings (now (log .entry))) (now (old .entry)) edit) (now (list .entry)) ⌝ }
 {
     let kept = parts::front_count(old, edit.at);
     let front = &old[..kept];
-    parts::put_moved(front, edits::nothing(), list, 0);
-    let from = parts::last_of(front) as usize;
+    parts::put_moved(front, 0, 0, list, 0);
+    let restart = parts::last_of(front) as usize;
     let past = &old[kept..];
-    let made = recutting::recut(settings, past, from, edit, log, list, kept as u64);
+    let made = recutting::recut(settings, past, restart, edit, log, list, kept as u64);
     let count = made.count;
     let passed = made.passed;
     let back = &past[passed..];
     let at = kept as u64 + count;
-    parts::put_moved(back, edit, list, at);
+    parts::put_moved(back, edit.removed, edit.added, list, at);
     let left = back.len() as u64;
     if at + left > list.len() as u64 {
         return Amendment::Refused(Refusal::ListFull);
@@ -62,8 +63,8 @@ fn write_parts(
 
 // The list of the new log, from the old log's list.
 pub fn amend(settings: Settings, old: &[u64], edit: Edit, log: &[u8], list: &mut [u64]) -> Amendment
-    ensures { λ r. ⌜ r ≡ amendAnswer settings (now (old .entry)) edit (now (log .entry)) (length (now (list .entry))) ⌝ }
-    ensures { λ r. ⌜ now (list .exit) ≡ amendList settings (now (old .entry)) edit (now (log .entry)) (now (list .entry)) ⌝ }
+    ensures answer { λ r. ⌜ r ≡ amendAnswer settings (now (old .entry)) edit (now (log .entry)) (length (now (list .entry))) ⌝ }
+    ensures list { λ r. ⌜ now (list .exit) ≡ amendLeaves settings (now (old .entry)) edit (now (log .entry)) (now (list .entry)) ⌝ }
 {
     if !settings.in_range() {
         return Amendment::Refused(Refusal::SettingsOutOfRange);

@@ -3,13 +3,13 @@ ghost use mathlib.Core.Path.{_≡_};
 ghost use Prim.Native.Nat.{_+_, _<_, _^_};
 ghost use lib.Dec.{leb};
 ghost use lib.ListN.{length};
-ghost use Rattle.amending.specs.Parts.{before};
-ghost use Rattle.amending.specs.Inner.{Ascends, Looked};
+ghost use Rattle.amending.specs.Parts.{until, meets};
+ghost use Rattle.amending.specs.Inner.{Ascends, passedBy};
 use super::edits::Edit;
 
 // How many entries come before the first that is not below an offset.
 pub fn climb(list: &[u64], offset: u64) -> usize
-    ensures { λ r. ⌜ r ≡ length (before (leb offset) (now (list .entry))) ⌝ }
+    ensures { λ r. ⌜ r ≡ length (until (leb offset) (now (list .entry))) ⌝ }
 {
     let mut i = 0;
     while i < list.len() {
@@ -31,7 +31,8 @@ pub struct Found {
 pub fn look(left: &[u64], edit: Edit, cut: u64) -> Found
     requires { ⌜ Ascends (now left) ⌝ }
     requires { ⌜ (edit .at + edit .added < 2 ^ 64) × (cut + edit .removed < 2 ^ 64) ⌝ }
-    ensures { λ r. ⌜ Looked edit cut (now (left .entry)) (r .passed) (r .met) ⌝ }
+    ensures passed { λ r. ⌜ r .passed ≡ passedBy edit (now (left .entry)) cut ⌝ }
+    ensures met { λ r. ⌜ r .met ≡ meets edit (now (left .entry)) cut ⌝ }
 {
     if cut < edit.at + edit.added {
         return Found {

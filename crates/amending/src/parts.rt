@@ -5,9 +5,8 @@ ghost use Prim.Native.Nat.{_+_, _<_, _^_};
 ghost use lib.ListN.{length};
 ghost use lib.Seq.{sets};
 ghost use Rattle.laws.specs.Last.{lastOr};
-ghost use Rattle.amending.specs.Parts.{frontCount, moved};
+ghost use Rattle.amending.specs.Parts.{frontCount, shifted};
 ghost use Rattle.amending.specs.Inner.{Movable};
-use super::edits::Edit;
 
 // The last entry of a list, or 0.
 pub fn last_of(list: &[u64]) -> u64
@@ -31,14 +30,14 @@ pub fn front_count(old: &[u64], place: u64) -> usize
     super::meeting::climb(&old[..end], place + 1)
 }
 
-// Writes old cuts, moved, from a place of the list on, as far as it goes.
-pub fn put_moved(part: &[u64], edit: Edit, list: &mut [u64], at: u64)
-    requires { ⌜ (at + length (now part) < 2 ^ 64) × Movable edit (now part) ⌝ }
-    ensures { λ _. ⌜ now (list .exit) ≡ sets (now (list .entry)) at (map (moved edit) (now (part .entry))) ⌝ }
+// Writes old cuts, moved by the bytes added less those removed, from a place of the list on, as far as it goes.
+pub fn put_moved(part: &[u64], removed: u64, added: u64, list: &mut [u64], at: u64)
+    requires { ⌜ (at + length (now part) < 2 ^ 64) × Movable removed added (now part) ⌝ }
+    ensures { λ _. ⌜ now (list .exit) ≡ sets (now (list .entry)) at (map (shifted removed added) (now (part .entry))) ⌝ }
 {
     let mut i = 0;
     while i < part.len() {
-        lists::put(list, at + i as u64, part[i] + edit.added - edit.removed);
+        lists::put(list, at + i as u64, part[i] + added - removed);
         i += 1;
     }
 }

@@ -19,7 +19,7 @@ pub struct Recutting {
 pub fn recut(
     settings: Settings,
     past: &[u64],
-    from: usize,
+    restart: usize,
     edit: Edit,
     log: &[u8],
     list: &mut [u64],
@@ -27,15 +27,14 @@ pub fn recut(
 ) -> Recutting
     requires { ⌜ (inRange settings ≡ true) × Ascends (now past) ⌝ }
     requires { ⌜ (edit .at + edit .added < 2 ^ 64) × (length (now log) + edit .removed < 2 ^ 64) × (kept + length (now log) < 2 ^ 64) ⌝ }
-    ensures { λ r. ⌜ Recutted edit (length (now (log .entry))) (now (past .entry)) (newCutsOf settings (now (log .entry)) from) kept (now (list .entry)) (now (list .exit)) (r .count) (r .passed) ⌝ }
+    ensures { λ r. ⌜ Recutted edit (length (now (log .entry))) (now (past .entry)) (newCutsOf settings (now (log .entry)) restart) kept (now (list .entry)) (now (list .exit)) (r .count) (r .passed) ⌝ }
 {
-    let leaving = signature::tables::leaving();
-    let pushed = signature::tables::pushed();
-    let mut cut = from;
+    let tables = signature::tables();
+    let mut cut = restart;
     let mut passed = 0;
     let mut count = 0;
     while cut < log.len() {
-        cut = cutting::search::next_cut(settings, log, cut, &leaving, &pushed);
+        cut = cutting::search::next_cut(settings, log, cut, &tables);
         let found = super::meeting::look(&past[passed..], edit, cut as u64);
         passed += found.passed;
         if found.met {

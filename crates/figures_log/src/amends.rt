@@ -140,8 +140,38 @@ fn rooms_and_lists() {
     );
 }
 
+// An old end that is a mark is no front cut either; a list that is not the log's is taken as it stands.
+fn other_lists() {
+    let c = ones(99, 199, 299, 299);
+    let ended = [100u64];
+    let mut list = [7u64; 3];
+    edit(
+        b"ten zeros appended to a mark",
+        &ended,
+        100,
+        0,
+        10,
+        &c,
+        110,
+        &mut list,
+    );
+    let untrue = [60u64, 130, 250, 400];
+    let mut room = [7u64; 9];
+    edit(
+        b"from a list that is not the log's",
+        &untrue,
+        70,
+        0,
+        0,
+        &c,
+        400,
+        &mut room,
+    );
+}
+
 pub fn run() {
     figures();
     edits_refused();
     rooms_and_lists();
+    other_lists();
 }

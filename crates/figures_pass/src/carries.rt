@@ -18,7 +18,7 @@ fn zeros(taken: u64, since: u64) -> Carry {
         since,
         window: [0; 48],
         signature: 0,
-        closed: false,
+        closed: 0,
     }
 }
 
@@ -36,7 +36,7 @@ fn show_carry(carry: Carry) {
     show::after_space(carry.taken);
     show::after_space(carry.since);
     show::after_space(carry.signature as u64);
-    if carry.closed {
+    if carry.closed == 1 {
         show::text(b" closed ");
     } else {
         show::text(b" open ");
@@ -88,7 +88,7 @@ fn not_in_order() {
     let mut carry = zeros(10, 5);
     carry.signature = 1;
     take_byte(b"another signature", carry);
-    carry.closed = true;
+    carry.closed = 1;
     take_byte(b"another signature and closed", carry);
 }
 
@@ -105,7 +105,7 @@ fn before_the_start() {
 fn other_rows() {
     take_byte(b"a block on no carry", nothing());
     let mut carry = zeros(10, 5);
-    carry.closed = true;
+    carry.closed = 1;
     take_byte(b"a block on a closed carry", carry);
     carry = zeros(1_099_511_627_776, 5);
     take_byte(b"one byte past 2^40", carry);
@@ -143,7 +143,7 @@ fn closing() {
     shut(b"closing no carry", nothing(), &mut list);
     shut(b"closing one not in order", zeros(10, 11), &mut list);
     let mut carry = zeros(400, 100);
-    carry.closed = true;
+    carry.closed = 1;
     shut(b"closing a closed one", carry, &mut list);
 }
 

@@ -48,4 +48,5 @@ module _ (s : Settings) (log rest written : List ℕ) (c : Carry) (ok : Ranges s
         eq-eqb (c .signature) (signatureOf (c .window)) (is .signed),
         zeros-first,
         le-leb (c .taken) longest (omega (arith, is .here)),
+        le-leb (c .closed) 1 (omega (arith, is .open-still)),
       )

@@ -1,7 +1,6 @@
 -- "This is the carry of that prefix": what a fresh carry starts, and a block keeps.
 use Prim.Native.Nat.{ℕ, suc, _+_, _-_, _≤_, _<_}
 use mathlib.Core.Path.{_≡_, refl, sym, ap, _∙_, subst}
-use mathlib.Core.Bool.{false}
 use mathlib.Core.List.{List, [], _++_, append-assoc}
 use native.Mathlib.Nat.{zero-add}
 use native.Mathlib.Omega.{arith}
@@ -10,7 +9,7 @@ use lib.Seq.{drop-append-le, drop-append-add, drop-drop}
 use Rattle.terms.specs.declared.Settings.{Settings}
 use Rattle.terms.proofs.Ranges.{Ranges}
 use Rattle.rule.specs.Rule.{hop}
-use Rattle.rule.proofs.Hops.{UpTo, past, up-to-joined, stands, hop-rises}
+use Rattle.rule.proofs.Hops.{UpTo, past, up-to-joined, last-is, stands, hop-rises}
 use Rattle.signature.specs.Polynomials.{foldDigits, rem}
 use Rattle.signature.specs.Signatures.{number, signature, signatureOf}
 use Rattle.cutting.specs.Marks.{mark, matches}
@@ -19,7 +18,7 @@ use Rattle.pass_carry.specs.declared.Carry.{Carry}
 use Rattle.pass_carry.specs.Carries.{freshCarry, blockTaken, cutsIn}
 use Rattle.pass_carry.proofs.Sees.{Sees, sees-first}
 use Rattle.pass_carry.proofs.Bytes.{Continues, Hopped, block-hops}
-use Rattle.pass_carry.proofs.Parts.{length-slid-by, Parts, parts}
+use Rattle.pass_carry.proofs.Parts.{length-slid-by, Parts, parts, since-last}
 
 -- the log with the zeros that a window shows before its start
 abbrev pub padded : List ℕ → List ℕ
@@ -31,7 +30,7 @@ onward s log = hop (mark s log) (s .minimum) (s .maximum)
 -- c is the carry of the log as far as rest, and these are the cuts written so far
 pub record CarryOf (s : Settings) (log rest written : List ℕ) (c : Carry) : Type 0 where
   pub same : c .settings ≡ s
-  pub open-still : c .closed ≡ false
+  pub open-still : c .closed ≡ 0
   pub here : c .taken + length rest ≡ length log
   pub whole : length (c .window) ≡ 48
   pub ahead : c .window ++ rest ≡ drop (c .taken) (padded log)
@@ -40,8 +39,8 @@ pub record CarryOf (s : Settings) (log rest written : List ℕ) (c : Carry) : Ty
   pub tied : last + c .since ≡ c .taken
   pub cuts : UpTo (onward s log) (c .taken) 0 written last
 
-rises : (s : Settings) (log : List ℕ) → Ranges s → (m : ℕ) → m < onward s log m
-rises s log ok = hop-rises (mark s log) (s .minimum) (s .maximum) (omega (arith, ok .window-fits)) (ok .ordered)
+pub rises : (s : Settings) (log : List ℕ) → Ranges s → (m : ℕ) → m < onward s log m
+rises s log ok = hop-rises (mark s log) (s .minimum) (s .maximum) (ok .positive) (ok .ordered)
 
 pub fresh-prefix : (s : Settings) (log : List ℕ) → Ranges s → CarryOf s log log [] (freshCarry s)
 unfolding freshCarry
@@ -114,6 +113,6 @@ module _ (s : Settings) (log block after written : List ℕ) (c : Carry) (ok : R
         ahead = ahead-still;
         signed = left .signature-true;
         last = hopped .last;
-        tied = hopped .tied ∙ sym (left .taken-grown);
+        tied = omega (arith, since-last block c (is .last) (is .tied), last-is (hopped .cuts), left .taken-grown);
         cuts = rw (left .taken-grown) (up-to-joined (omega arith) (is .cuts) cuts-here);
       }

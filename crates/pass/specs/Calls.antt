@@ -1,48 +1,45 @@
 -- The answer, the carry and the lent list of each call of the single pass: document 01, "Numbers answered".
 use Prim.Native.Nat.{ℕ, _+_}
-use mathlib.Core.Bool.{true, false}
-use mathlib.Core.List.{List, [], _∷_}
-use lib.Dec.{leb, ltb}
+use mathlib.Core.Bool.{true, false, not}
+use mathlib.Core.List.{List, [], _∷_, _++_}
+use lib.Dec.{ltb}
 use lib.ListN.{length}
 use Rattle.terms.specs.declared.Settings.{Settings}
-use Rattle.terms.specs.declared.Refusal.{Refusal}
-use Rattle.terms.specs.declared.Refusal.the-variants.{SettingsOutOfRange, LogTooLong, RoomTooShort}
-use Rattle.terms.specs.Settings.{inRange}
-use Rattle.terms.specs.Answers.{longest, roomFor, unless}
-use Rattle.cutting.specs.WholeLog.{writtenList}
+use Rattle.terms.specs.declared.Refusal.the-variants.{SettingsOutOfRange, LogTooLong, RoomTooShort, ListFull}
+use Rattle.terms.specs.Settings.{inRange, noSettings}
+use Rattle.terms.specs.Answers.{longest, roomFor}
+use Rattle.terms.specs.Rows.{Row, row, verdict, ruled, leaves}
+use Rattle.lists.specs.Written.{guard, writtenList}
 use Rattle.pass_carry.specs.declared.Carry.{Carry}
 use Rattle.pass_carry.specs.declared.Outcome.{Outcome}
-use Rattle.pass_carry.specs.Carries.{freshCarry, cutsIn}
+use Rattle.pass_carry.specs.Carries.{freshCarry, blockTaken, cutsIn}
 use Rattle.pass_carry.specs.Outcomes.{refused, wrote, carryRows}
-use Rattle.pass_block.specs.Taking.{takenOf}
 
 -- a carry with every part 0
 abbrev pub noCarry : Carry
-noCarry = freshCarry (record { bits = 0; target = 0; minimum = 0; maximum = 0 })
+noCarry = freshCarry noSettings
 
 -- fresh: 1
-unfoldable pub freshOf : Settings → Outcome
-freshOf s = unless (inRange s) (refused noCarry SettingsOutOfRange) (wrote (freshCarry s) 0)
+unfoldable pub freshRows : (settings : Settings) → List Row
+freshRows settings = row SettingsOutOfRange (not (inRange settings)) ∷ []
 
--- block: 1, 3, 4, 2, 5
-abbrev pub blockRows : {A : Type 0} → Carry → ℕ → ℕ → (Refusal → A) → A → A
-blockRows c bytes room refuse fine =
-    carryRows c refuse
-    (unless (leb (c .taken + bytes) longest) (refuse LogTooLong)
-    (unless (leb (roomFor (c .settings .minimum) bytes) room) (refuse RoomTooShort)
-    fine))
+unfoldable pub freshOutcome : (settings : Settings) → Outcome
+freshOutcome settings = ruled (verdict (freshRows settings)) (refused noCarry) (wrote (freshCarry settings) 0)
 
--- the answer and the carry
-unfoldable pub blockOf : Carry → List ℕ → ℕ → Outcome
-blockOf c block room = blockRows c (length block) room (refused c) (takenOf c block room)
+-- block: 1, 3, 4, 2, 5, and the guard
+unfoldable pub blockRows : (c : Carry) (block : List ℕ) (room : ℕ) → List Row
+blockRows c block room =
+    carryRows c
+    ++ (row LogTooLong (ltb longest (c .taken + length block))
+    ∷ row RoomTooShort (ltb room (roomFor (c .settings .minimum) (length block)))
+    ∷ guard (cutsIn c block) room
+    ∷ [])
 
--- the list at exit; 17 keeps the cuts written
-unfoldable pub blockList : Carry → List ℕ → List ℕ → List ℕ
-blockList c block list = blockRows c (length block) (length list) (λ why. list) (writtenList (cutsIn c block) list)
+unfoldable pub blockOutcome : (c : Carry) (block : List ℕ) (room : ℕ) → Outcome
+blockOutcome c block room = ruled (verdict (blockRows c block room)) (refused c) (wrote (blockTaken c block) (length (cutsIn c block)))
 
--- close: 1, 3, 4, 5
-abbrev pub closeRows : {A : Type 0} → Carry → ℕ → (Refusal → A) → A → A
-closeRows c room refuse fine = carryRows c refuse (unless (leb 1 room) (refuse RoomTooShort) fine)
+unfoldable pub blockLeaves : (c : Carry) (block list : List ℕ) → List ℕ
+blockLeaves c block list = leaves (verdict (blockRows c block (length list))) ListFull list (writtenList (cutsIn c block) list)
 
 -- the cut that closing adds: the log's end, where bytes have come since the last cut
 unfoldable pub closingCut : Carry → List ℕ
@@ -57,11 +54,15 @@ closedCarry c =
       since = c .since;
       window = c .window;
       signature = c .signature;
-      closed = true;
+      closed = 1;
     }
 
-unfoldable pub closeOf : Carry → ℕ → Outcome
-closeOf c room = closeRows c room (refused c) (wrote (closedCarry c) (length (closingCut c)))
+-- close: 1, 3, 4, 5
+unfoldable pub closeRows : (c : Carry) (room : ℕ) → List Row
+closeRows c room = carryRows c ++ (row RoomTooShort (ltb room 1) ∷ [])
 
-unfoldable pub closeList : Carry → List ℕ → List ℕ
-closeList c list = closeRows c (length list) (λ why. list) (writtenList (closingCut c) list)
+unfoldable pub closeOutcome : (c : Carry) (room : ℕ) → Outcome
+closeOutcome c room = ruled (verdict (closeRows c room)) (refused c) (wrote (closedCarry c) (length (closingCut c)))
+
+unfoldable pub closeLeaves : (c : Carry) (list : List ℕ) → List ℕ
+closeLeaves c list = ruled (verdict (closeRows c (length list))) (λ _. list) (writtenList (closingCut c) list)

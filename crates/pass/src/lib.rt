@@ -2,13 +2,13 @@
 ghost use mathlib.Core.Path.{_≡_};
 ghost use lib.ListN.{length};
 ghost use Rattle.pass_carry.specs.Carries.{freshCarry};
-ghost use Rattle.pass.specs.Calls.{closedCarry, freshOf, blockOf, blockList, closeOf, closeList};
+ghost use Rattle.pass.specs.Calls.{closedCarry, freshOutcome, blockOutcome, blockLeaves, closeOutcome, closeLeaves};
 use pass_carry::Carry;
 use pass_carry::Outcome;
-use pass_carry::order::Verdict;
 use terms::Answer;
 use terms::Refusal;
 use terms::Settings;
+use terms::Verdict;
 
 // A carry that has taken nothing.
 fn untouched(settings: Settings) -> Carry
@@ -20,21 +20,16 @@ fn untouched(settings: Settings) -> Carry
         since: 0,
         window: [0; 48],
         signature: 0,
-        closed: false,
+        closed: 0,
     }
 }
 
 // The carry that a log starts with.
 pub fn fresh(settings: Settings) -> Outcome
-    ensures { λ r. ⌜ r ≡ freshOf settings ⌝ }
+    ensures answer { λ r. ⌜ r ≡ freshOutcome settings ⌝ }
 {
     if !settings.in_range() {
-        let nothing = Settings {
-            bits: 0,
-            target: 0,
-            minimum: 0,
-            maximum: 0,
-        };
+        let nothing = Settings::none();
         return Outcome {
             answer: Answer::Refused(Refusal::SettingsOutOfRange),
             carry: untouched(nothing),
@@ -48,8 +43,8 @@ pub fn fresh(settings: Settings) -> Outcome
 
 // Takes the next bytes of the log, and writes the cuts among them.
 pub fn block(carry: Carry, bytes: &[u8], list: &mut [u64]) -> Outcome
-    ensures { λ r. ⌜ r ≡ blockOf carry (now (bytes .entry)) (length (now (list .entry))) ⌝ }
-    ensures { λ _. ⌜ now (list .exit) ≡ blockList carry (now (bytes .entry)) (now (list .entry)) ⌝ }
+    ensures answer { λ r. ⌜ r ≡ blockOutcome carry (now (bytes .entry)) (length (now (list .entry))) ⌝ }
+    ensures list { λ _. ⌜ now (list .exit) ≡ blockLeaves carry (now (bytes .entry)) (now (list .entry)) ⌝ }
 {
     let verdict = pass_carry::order::judge(carry);
     if let Verdict::Wrong(why) = verdict {
@@ -85,14 +80,14 @@ fn shut(carry: Carry) -> Carry
         since: carry.since,
         window: window,
         signature: carry.signature,
-        closed: true,
+        closed: 1,
     }
 }
 
 // Ends the log: its end is written where it is not yet a cut.
 pub fn close(carry: Carry, list: &mut [u64]) -> Outcome
-    ensures { λ r. ⌜ r ≡ closeOf carry (length (now (list .entry))) ⌝ }
-    ensures { λ _. ⌜ now (list .exit) ≡ closeList carry (now (list .entry)) ⌝ }
+    ensures answer { λ r. ⌜ r ≡ closeOutcome carry (length (now (list .entry))) ⌝ }
+    ensures list { λ _. ⌜ now (list .exit) ≡ closeLeaves carry (now (list .entry)) ⌝ }
 {
     let verdict = pass_carry::order::judge(carry);
     if let Verdict::Wrong(why) = verdict {

@@ -1,44 +1,39 @@
--- A lent list filled with a block's cuts: what is known after each, and what that says where it stops.
+-- A block's cuts put into a lent list: what is known after each, and what that says at the end.
 use Prim.Native.Nat.{ℕ, _+_, _-_, _≤_, _<_, min}
-use mathlib.Core.Path.{_≡_, refl, sym, ap, ap₂, _∙_}
+use mathlib.Core.Path.{_≡_, sym, ap, _∙_}
 use mathlib.Core.Bool.{true, false, _&&_, _||_}
-use mathlib.Core.List.{List, [], _∷_, _++_, append-assoc, append-nil}
+use mathlib.Core.List.{List, [], _++_}
 use native.Mathlib.Omega.{arith}
 use lib.Dec.{leb, eqb}
-use lib.ListN.{length, set, length-append}
+use lib.ListN.{length, set}
 use lib.Seq.{take-all}
-use borrow.Author.Tests.{le-leb, lt-leb, lt-ltb, le-ltb}
+use borrow.Author.Tests.{lt-ltb, le-ltb}
 use Rattle.laws.proofs.Cases.{by-lt, clash}
 use Rattle.terms.specs.declared.Settings.{Settings}
 use Rattle.rule.proofs.Next.{next-step}
 use Rattle.rule.proofs.Hops.{UpTo, leaps, no-more, hop-rises, next-hop}
+use Rattle.lists.specs.declared.Made.{Made}
+use Rattle.lists.specs.Puts.{Puts}
+use Rattle.lists.proofs.Putting.{Underway, begin, rest-is, one-more, ended}
 use Rattle.signature.specs.Signatures.{signatureOf}
 use Rattle.cutting.specs.Marks.{mark, matches, nextCut}
-use Rattle.cutting.specs.WholeLog.{writtenList}
-use Rattle.cutting.proofs.Written.{Holds, holds-none, holds-more, holds-full, holds-all}
 use Rattle.pass_carry.specs.declared.Carry.{Carry}
-use Rattle.pass_carry.specs.Carries.{slidBy, blockTaken, cutsIn}
+use Rattle.pass_carry.specs.Carries.{slidBy, cutsIn}
 use Rattle.pass_carry.proofs.Usable.{Usable}
 use Rattle.pass_carry.proofs.Bytes.{block-hops, cut-here, none-here}
 use Rattle.pass_carry.proofs.Parts.{length-slid-by}
-use Rattle.pass_block.specs.declared.filling.Filled.the-variants.{Full, Reached}
-use Rattle.pass_block.specs.Taking.{firstCut, isCut, filledOf}
-use Rattle.pass_block.proofs.Moves.{lastCut, seenBy, onward, toEnd, seen-signature, sees-block, continues-here, next-first, next-inside}
+use Rattle.pass_block.specs.Taking.{firstCut, isCut, begun}
+use Rattle.pass_block.proofs.Moves.{seenBy, onward, toEnd, seen-signature, sees-block, continues-here, next-first, next-inside}
 
--- the cuts up to last are written over the first entries of list₀, the rest are to come, and final is the last of them all; the piece from last
--- on reaches, with so many bytes, to the offset cut of the block
-pub record Filling (c : Carry) (block list₀ list : List ℕ) (count cut piece : ℕ) : Type 0 where
-  pub cuts : List ℕ
+-- the cuts up to cut are made and the rest are to come; next is the block's offset where the piece from cut on can end
+pub record Filling (c : Carry) (block list₀ list : List ℕ) (count cut next : ℕ) : Type 0 where
   pub rest : List ℕ
-  pub last : ℕ
   pub final : ℕ
-  pub parted : cutsIn c block ≡ cuts ++ rest
-  pub coming : UpTo (onward c block) (c .taken + length block) last rest final
-  pub ends : final + blockTaken c block .since ≡ c .taken + length block
-  pub holds : Holds list₀ list cuts count
-  pub tied : last + piece ≡ c .taken + cut
-  pub ahead : toEnd c block last ≡ c .taken + cut
-  pub inside : cut ≤ length block
+  pub made : Underway (cutsIn c block) rest (begun c) list₀ count cut list
+  pub coming : UpTo (onward c block) (c .taken + length block) cut rest final
+  pub ahead : toEnd c block cut ≡ c .taken + next
+  pub after : cut ≤ c .taken + next
+  pub inside : next ≤ length block
 
 below-end : (s : Settings) (left piece signature : ℕ) → 0 < left → isCut s left piece signature ≡ true
 unfolding isCut
@@ -58,110 +53,85 @@ end-test c block ok some left piece signature none is-signature =
 
 module _ (c : Carry) (block : List ℕ) (ok : Usable c) (some : 0 < length block) where
   pub start : (list : List ℕ) (first : ℕ) → first ≡ firstCut (c .settings) (c .since) (c .window ++ block) (length block)
-      → Filling c block list list 0 first (c .since + first)
+      → Filling c block list list 0 (c .taken - c .since) first
   start list first e =
-      let here : toEnd c block (lastCut c) ≡ c .taken + first = next-first c block ok ∙ ap (λ x. c .taken + x) (sym e) in
-      let hopped = block-hops (seenBy c block) block c (lastCut c) (sees-block c block ok) (continues-here c block ok) in
-      let within = next-step (seenBy c block) (c .settings .minimum) (c .settings .maximum) (c .taken + length block) (lastCut c) (ok .ranged .ordered) .inside in
+      let last = c .taken - c .since in
+      let here : toEnd c block last ≡ c .taken + first = next-first c block ok ∙ ap (λ x. c .taken + x) (sym e) in
+      let hopped = block-hops (seenBy c block) block c last (sees-block c block ok) (continues-here c block ok) in
+      let within = next-step (seenBy c block) (c .settings .minimum) (c .settings .maximum) (c .taken + length block) last (ok .ranged .ordered) .inside in
       record {
-        cuts = [];
         rest = cutsIn c block;
-        last = lastCut c;
         final = hopped .last;
-        parted = refl;
+        made = begin (cutsIn c block) (begun c) list (omega arith);
         coming = hopped .cuts;
-        ends = hopped .tied;
-        holds = holds-none list;
-        tied = omega (arith, ok .begun);
         ahead = here;
+        after = omega arith;
         inside = omega (arith, here, within);
       }
 
   rises : (m : ℕ) → m < onward c block m
-  rises = hop-rises (seenBy c block) (c .settings .minimum) (c .settings .maximum) (omega (arith, ok .ranged .window-fits)) (ok .ranged .ordered)
+  rises = hop-rises (seenBy c block) (c .settings .minimum) (c .settings .maximum) (ok .ranged .positive) (ok .ranged .ordered)
 
   -- the next cut moves on, but at the block's end
-  pub moves : {cut r : ℕ} → cut ≤ length block → r ≡ nextCut (c .settings) block cut → (cut ≤ r) × (r ≤ length block) × (cut < length block → cut < r)
-  moves {cut} {r} h e =
-      let step = next-step (mark (c .settings) block) (c .settings .minimum) (c .settings .maximum) (length block) cut (ok .ranged .ordered) in
-      by-lt cut (length block)
-      (λ k. let up : cut < nextCut (c .settings) block cut = step .onward (omega (arith, ok .ranged .window-fits)) k in (omega arith, omega (arith, step .inside), λ z. omega arith))
+  moves : {next r : ℕ} → next ≤ length block → r ≡ nextCut (c .settings) block next → (next ≤ r) × (r ≤ length block) × (next < length block → next < r)
+  moves {next} {r} h e =
+      let step = next-step (mark (c .settings) block) (c .settings .minimum) (c .settings .maximum) (length block) next (ok .ranged .ordered) in
+      by-lt next (length block)
+      (λ k. let up : next < nextCut (c .settings) block next = step .onward (ok .ranged .positive) k in (omega arith, omega (arith, step .inside), λ z. omega arith))
       (λ k. by-lt r (length block) (λ j. absurd (omega (arith, step .at-least (omega arith)))) (λ j. (omega arith, omega (arith, step .inside), λ z. absurd (omega arith))))
 
-  module _ {list₀ list : List ℕ} {count cut piece : ℕ} (f : Filling c block list₀ list count cut piece) where
-    shortened : min (onward c block (f .last)) (c .taken + length block) ≡ c .taken + cut
-    shortened = sym (next-hop (seenBy c block) (c .settings .minimum) (c .settings .maximum) (c .taken + length block) (f .last)) ∙ f .ahead
+  module _ {list₀ list : List ℕ} {count cut next : ℕ} (f : Filling c block list₀ list count cut next) (signature : ℕ) (is-signature : signature ≡ signatureOf (slidBy (c .window) block)) where
+    abbrev piece : ℕ
+    piece = c .taken + next - cut
 
-    module _ (signature : ℕ) (is-signature : signature ≡ signatureOf (slidBy (c .window) block)) where
-      -- the offset is a cut
-      is-cut : isCut (c .settings) (length block - cut) piece signature ≡ true → onward c block (f .last) ≡ c .taken + cut
-      is-cut t =
-          by-lt cut (length block)
-          (λ h. omega (arith, shortened))
-          (λ h.
-          cut-here (seenBy c block) (c .settings .minimum) (c .settings .maximum) (f .last) piece (c .taken + length block) (omega (arith, f .tied, f .inside)) (ok .ranged .ordered) (omega (arith, shortened))
-          (sym (end-test c block ok some (length block - cut) piece signature (omega arith) is-signature) ∙ t)
-          ∙ omega (arith, f .inside))
+    shortened : min (onward c block cut) (c .taken + length block) ≡ c .taken + next
+    shortened = sym (next-hop (seenBy c block) (c .settings .minimum) (c .settings .maximum) (c .taken + length block) cut) ∙ f .ahead
 
-      -- it is not: the block's end, and the piece goes on
-      no-cut : isCut (c .settings) (length block - cut) piece signature ≡ false → (cut ≡ length block) × (c .taken + length block < onward c block (f .last))
-      no-cut t =
-          by-lt cut (length block)
-          (λ h. absurd (clash (sym (below-end (c .settings) (length block - cut) piece signature (omega arith)) ∙ t)))
-          (λ h. (
-            omega (arith, f .inside),
-            none-here (seenBy c block) (c .settings .minimum) (c .settings .maximum) (f .last) piece (c .taken + length block) (omega (arith, f .tied, f .inside)) (ok .ranged .ordered) (omega (arith, shortened))
-                (sym (end-test c block ok some (length block - cut) piece signature (omega arith) is-signature) ∙ t),
-          ))
+    -- the offset is a cut
+    is-cut : isCut (c .settings) (length block - next) piece signature ≡ true → onward c block cut ≡ c .taken + next
+    is-cut t =
+        by-lt next (length block)
+        (λ h. omega (arith, shortened))
+        (λ h.
+        cut-here (seenBy c block) (c .settings .minimum) (c .settings .maximum) cut piece (c .taken + length block) (omega (arith, f .after, f .inside)) (ok .ranged .ordered) (omega (arith, shortened))
+        (sym (end-test c block ok some (length block - next) piece signature (omega arith) is-signature) ∙ t)
+        ∙ omega (arith, f .inside))
 
-      pub turn : isCut (c .settings) (length block - cut) piece signature ≡ true → count < length list₀ → (r : ℕ) → r ≡ nextCut (c .settings) block cut
-          → Filling c block list₀ (set list count (c .taken + cut)) (count + 1) r (r - cut)
-      turn t room r e =
-          let on = leaps (f .coming) (is-cut t) (omega (arith, f .inside)) in
-          record {
-            cuts = f .cuts ++ ((c .taken + cut) ∷ []);
-            rest = on .0;
-            last = c .taken + cut;
-            final = f .final;
-            parted = f .parted ∙ ap (λ l. f .cuts ++ l) (on .1) ∙ sym (append-assoc (f .cuts) ((c .taken + cut) ∷ []) (on .0));
-            coming = on .2;
-            ends = f .ends;
-            holds = holds-more (f .holds) room (c .taken + cut);
-            tied = omega (arith, moves (f .inside) e);
-            ahead = next-inside c block ok cut ∙ ap (λ x. c .taken + x) (sym e);
-            inside = moves (f .inside) e .1;
-          }
+    -- it is not: the block's end, and the piece goes on
+    no-cut : isCut (c .settings) (length block - next) piece signature ≡ false → c .taken + length block < onward c block cut
+    no-cut t =
+        by-lt next (length block)
+        (λ h. absurd (clash (sym (below-end (c .settings) (length block - next) piece signature (omega arith)) ∙ t)))
+        (λ h.
+        none-here (seenBy c block) (c .settings .minimum) (c .settings .maximum) cut piece (c .taken + length block) (omega (arith, f .after, f .inside)) (ok .ranged .ordered) (omega (arith, shortened))
+        (sym (end-test c block ok some (length block - next) piece signature (omega arith) is-signature) ∙ t))
 
-      -- the bytes left fall; at the block's end, where there are none, the piece does
-      pub falls : isCut (c .settings) (length block - cut) piece signature ≡ true → {r : ℕ} → r ≡ nextCut (c .settings) block cut
-          → length block - r + min (r - cut) 1 < length block - cut + min piece 1
-      falls t {r} e =
-          let on = moves (f .inside) e in
-          let some-piece : 0 < piece = omega (arith, rises (f .last), is-cut t, f .tied) in
-          by-lt cut (length block) (λ h. let up = on .2 h in omega arith) (λ h. omega arith)
+    -- the cuts rise
+    above : isCut (c .settings) (length block - next) piece signature ≡ true → cut < c .taken + next
+    above t = omega (arith, rises cut, is-cut t)
 
-      -- a cut is to be written, and the list is full
-      pub full : isCut (c .settings) (length block - cut) piece signature ≡ true → count ≡ length list₀
-          → (Full ≡ filledOf c block (length list₀)) × (list ≡ writtenList (cutsIn c block) list₀)
-      unfolding filledOf
-      full t e =
-          let on = leaps (f .coming) (is-cut t) (omega (arith, f .inside)) in
-          let all : cutsIn c block ≡ f .cuts ++ ((c .taken + cut) ∷ on .0) = f .parted ∙ ap (λ l. f .cuts ++ l) (on .1) in
-          let long : length list₀ < length (cutsIn c block) = rw (all, length-append) (omega (arith, f .holds .counted)) in (
-            rw (lt-leb _ _ long),
-            rw all (holds-full (f .holds) _ e),
-          )
+    pub turn : isCut (c .settings) (length block - next) piece signature ≡ true → {list′ : List ℕ} → list′ ≡ set list count (c .taken + next)
+        → (r : ℕ) → r ≡ nextCut (c .settings) block next → Filling c block list₀ list′ (count + 1) (c .taken + next) r
+    turn t put r e =
+        let on = leaps (f .coming) (is-cut t) (omega (arith, f .inside)) in
+        record {
+          rest = on .0;
+          final = f .final;
+          made = one-more (c .taken + next) (rest-is _ (on .1) (f .made)) (above t) put;
+          coming = on .2;
+          ahead = next-inside c block ok next ∙ ap (λ x. c .taken + x) (sym e);
+          after = omega (arith, moves (f .inside) e .0);
+          inside = moves (f .inside) e .1;
+        }
 
-      -- all cuts are written
-      pub done : isCut (c .settings) (length block - cut) piece signature ≡ false
-          → (Reached count piece ≡ filledOf c block (length list₀)) × (list ≡ writtenList (cutsIn c block) list₀)
-      unfolding filledOf
-      done t =
-          let at-end = no-cut t in
-          let (none, final-is) = no-more (f .coming) (at-end .1) in
-          let all : cutsIn c block ≡ f .cuts = f .parted ∙ ap (λ l. f .cuts ++ l) none ∙ append-nil (f .cuts) in
-          let short : length (cutsIn c block) ≤ length list₀ = rw all (omega (arith, f .holds .counted, f .holds .room)) in
-          let since : piece ≡ blockTaken c block .since = omega (arith, f .ends, f .tied) in (
-            rw (le-leb _ _ short) (ap₂ Reached (f .holds .counted ∙ ap length (sym all)) since),
-            rw all (holds-all (f .holds)),
-          )
+    -- the bytes left fall; at the block's end, where there are none, the piece does
+    pub falls : isCut (c .settings) (length block - next) piece signature ≡ true → {r : ℕ} → r ≡ nextCut (c .settings) block next
+        → length block - r + min (c .taken + r - (c .taken + next)) 1 < length block - next + min piece 1
+    falls t {r} e =
+        let on = moves (f .inside) e in
+        let some-piece : 0 < piece = omega (arith, above t) in
+        by-lt next (length block) (λ h. let up = on .2 h in omega arith) (λ h. omega arith)
+
+    -- all cuts are made
+    pub done : isCut (c .settings) (length block - next) piece signature ≡ false → Puts (cutsIn c block) (begun c) (record { count = count; cut = cut }) list₀ list
+    done t = ended (rest-is [] (no-more (f .coming) (no-cut t) .0) (f .made))

@@ -22,7 +22,7 @@ use Rattle.pass_block.specs.Taking.{firstCut}
 use Rattle.pass_block.proofs.Seen.{shown, long, block-marks}
 
 -- the last cut before the block
-abbrev pub lastCut : Carry → ℕ
+abbrev lastCut : Carry → ℕ
 lastCut c = c .taken - c .since
 
 pub seenBy : Carry → List ℕ → ℕ → Bool

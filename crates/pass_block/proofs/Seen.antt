@@ -1,11 +1,11 @@
 -- The marks that a carry's window and a block show, counted from the block's start: where they lie.
-use Prim.Native.Nat.{ℕ, suc, _+_, _-_, _≤_, min}
-use mathlib.Core.Path.{_≡_, refl, sym, ap, _∙_}
+use Prim.Native.Nat.{ℕ, suc, _+_, _-_, _≤_}
+use mathlib.Core.Path.{_≡_, refl, sym, ap, ap₂, _∙_}
 use mathlib.Core.Bool.{Bool}
-use mathlib.Core.List.{List, _++_, append-assoc}
+use mathlib.Core.List.{List, _++_}
 use native.Mathlib.Omega.{arith}
 use lib.ListN.{length, take, drop, length-append, length-take, take-append-drop}
-use lib.Seq.{drop-append-add, take-at}
+use lib.Seq.{drop-append-add}
 use Rattle.terms.specs.declared.Settings.{Settings}
 use Rattle.rule.specs.Rule.{firstMark}
 use Rattle.rule.proofs.First.{first-moves}
@@ -13,21 +13,13 @@ use Rattle.signature.specs.Signatures.{window}
 use Rattle.cutting.specs.Marks.{mark}
 use Rattle.cutting.proofs.Marked.{marks-agree}
 use Rattle.pass_carry.proofs.Sees.{window-first}
-use Rattle.pass_block.specs.Taking.{Heads}
+use Rattle.pass_block.specs.Taking.{headOf}
 
--- a head is the window, the block's first bytes, and more
-head-parts : (head w block : List ℕ) → Heads head w block → head ≡ w ++ (take 48 block ++ drop (48 + min 48 (length block)) head)
-head-parts head w block heads =
-    sym (take-append-drop (48 + min 48 (length block)) head) ∙ ap (λ l. l ++ drop (48 + min 48 (length block)) head) heads ∙ append-assoc w (take 48 block) _
-
-pub head-window : (head w block : List ℕ) → length w ≡ 48 → Heads head w block → take 48 head ≡ w
-head-window head w block whole heads = ap (take 48) (head-parts head w block heads) ∙ take-at w _ 48 whole
-
--- up to the block's first 48 bytes its windows are those of the window and the block
-pub head-windows : (head w block : List ℕ) (i : ℕ) → length w ≡ 48 → Heads head w block → i ≤ 48 → i ≤ length block → window head i ≡ window (w ++ block) i
-head-windows head w block i whole heads a b =
+-- up to the block's first 48 bytes a head's windows are those of the window and the block
+pub head-windows : (w block : List ℕ) (i : ℕ) → length w ≡ 48 → i ≤ 48 → i ≤ length block → window (headOf w block) i ≡ window (w ++ block) i
+head-windows w block i whole a b =
     let within : i ≤ length (take 48 block) = rw length-take (omega arith) in
-    ap (λ l. window l i) (head-parts head w block heads) ∙ window-first w (take 48 block) _ i whole within
+    window-first w (take 48 block) _ i whole within
     ∙ sym (window-first w (take 48 block) (drop 48 block) i whole within) ∙ ap (λ l. window (w ++ l) i) (take-append-drop 48 block)
 
 abbrev pub shown : Settings → List ℕ → ℕ → Bool
@@ -53,12 +45,12 @@ module _ (s : Settings) (w block : List ℕ) (whole : length w ≡ 48) where
       omega (arith, moved)
 
   -- those at the edge lie in the head
-  module _ (head : List ℕ) (room : 96 ≤ length head) (heads : Heads head w block) where
+  module _ (head : List ℕ) (room : 96 ≤ length head) (heads : head ≡ headOf w block) where
     edge-marks : (i : ℕ) → i ≤ 48 → i ≤ length block → mark s head (48 + i) ≡ shown s (w ++ block) i
     edge-marks i a b =
         let here : 48 + i - 48 ≡ i = omega arith in
         marks-agree s head (w ++ block) (48 + i) (48 + i) (omega arith) (omega arith) (omega arith) (omega (arith, long))
-        (ap (window head) here ∙ head-windows head w block i whole heads a b ∙ ap (window (w ++ block)) (sym here))
+        (ap₂ window heads here ∙ head-windows w block i whole a b ∙ ap (window (w ++ block)) (sym here))
 
     pub at-edge : (first last : ℕ) → last ≤ 48 → last ≤ length block
         → firstMark (mark s head) (suc (48 + last) - (48 + first)) (48 + first) (48 + last) ≡ 48 + firstMark (shown s (w ++ block)) (suc last - first) first last

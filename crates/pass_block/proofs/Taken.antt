@@ -1,27 +1,31 @@
--- What taking a block answers, by what filling the list came to.
-use Prim.Native.Nat.{ℕ}
+-- What taking a block answers, by how many cuts were made and which is the last.
+use Prim.Native.Nat.{ℕ, _+_, _-_, _≤_, _<_}
 use mathlib.Core.Path.{_≡_, sym, ap, ap₂, _∙_}
-use mathlib.Core.List.{List}
+use mathlib.Core.List.{List, []}
 use native.Mathlib.Omega.{arith}
-use lib.Dec.{leb}
 use lib.ListN.{length}
-use Rattle.laws.proofs.Cases.{by-test}
+use lib.Seq.{sets}
+use borrow.Author.Tests.{lt-ltb, le-ltb}
+use Rattle.laws.proofs.Sets.{sets-written}
 use Rattle.terms.specs.declared.Refusal.the-variants.{ListFull}
+use Rattle.terms.specs.Rows.{verdict}
+use Rattle.lists.specs.declared.Made.{Made}
+use Rattle.lists.specs.Puts.{Puts}
+use Rattle.lists.proofs.Putting.{puts-long}
 use Rattle.signature.specs.Signatures.{signatureOf}
+use Rattle.lists.specs.Written.{writtenList}
 use Rattle.pass_carry.specs.declared.Carry.{Carry}
 use Rattle.pass_carry.specs.Carries.{slidBy, blockTaken, cutsIn}
 use Rattle.pass_carry.specs.Outcomes.{refused, wrote}
-use Rattle.pass_carry.proofs.Parts.{parts}
-use Rattle.pass_block.specs.declared.filling.Filled.{Filled}
-use Rattle.pass_block.specs.declared.filling.Filled.the-variants.{Full, Reached}
-use Rattle.pass_block.specs.Taking.{takenOf, filledOf, advancedBy}
+use Rattle.pass_carry.proofs.Usable.{Usable}
+use Rattle.pass_carry.proofs.Parts.{parts, since-last}
+use Rattle.pass_block.specs.Taking.{takenOutcome, begun, advancedBy}
 
 -- the whole carry, where the bytes since the last cut are known
-block-taken : (block : List ℕ) (c : Carry) (since : ℕ) → length (c .window) ≡ 48 → c .signature ≡ signatureOf (c .window)
-    → blockTaken c block .since ≡ since
+block-taken : (block : List ℕ) (c : Carry) (since : ℕ) → Usable c → blockTaken c block .since ≡ since
     → blockTaken c block ≡ advancedBy c (length block) since (slidBy (c .window) block) (signatureOf (slidBy (c .window) block))
-block-taken block c since whole sig e =
-    let p = parts block c whole sig in
+block-taken block c since ok e =
+    let p = parts block c (ok .whole) (ok .signed) in
     λ i.
     record {
       settings = p .settings-kept i;
@@ -32,26 +36,29 @@ block-taken block c since whole sig e =
       closed = p .closed-kept i;
     }
 
-never : {A : Type 0} (k p : ℕ) → Reached k p ≡ Full → A
-never k p e = absurd (let z : _≡_ {A = ℕ} 0 1 = cc in omega arith)
+module _ (c : Carry) (block list₀ list : List ℕ) (made : Made) (ok : Usable c) (puts : Puts (cutsIn c block) (begun c) made list₀ list) where
+  counted : made .count ≡ length (cutsIn c block)
+  counted = omega (arith, puts .counted)
 
-module _ (c : Carry) (block : List ℕ) (room : ℕ) {v : Filled} (told : v ≡ filledOf c block room) where
-  pub ran-full : v ≡ Full → refused c ListFull ≡ takenOf c block room
-  unfolding filledOf takenOf
-  ran-full e =
-      by-test (leb (length (cutsIn c block)) room)
-      (λ t. never (length (cutsIn c block)) (blockTaken c block .since) (sym (told ∙ rw t) ∙ e))
-      (λ t. rw t)
+  -- the last cut, and the bytes since
+  since-is : made .cut + blockTaken c block .since ≡ c .taken + length block
+  since-is = ap (λ m. m + blockTaken c block .since) (puts .last) ∙ since-last block c (c .taken - c .since) (omega (arith, ok .begun))
 
-  pub reached : {k p : ℕ} → v ≡ Reached k p → (window : List ℕ) (signature : ℕ) → length (c .window) ≡ 48 → c .signature ≡ signatureOf (c .window)
-      → window ≡ slidBy (c .window) block → signature ≡ signatureOf (slidBy (c .window) block)
-      → wrote (advancedBy c (length block) p window signature) k ≡ takenOf c block room
-  unfolding filledOf takenOf
-  reached {k} {p} e window signature whole signed is-window is-signature =
-      by-test (leb (length (cutsIn c block)) room)
-      (λ t.
-      let same : Reached k p ≡ Reached (length (cutsIn c block)) (blockTaken c block .since) = sym e ∙ told ∙ rw t in
-      let counted : k ≡ length (cutsIn c block) = cc in
-      let since : p ≡ blockTaken c block .since = cc in
-      rw t (ap₂ wrote (ap₂ (advancedBy c (length block) p) is-window is-signature ∙ sym (block-taken block c p whole signed (sym since))) counted))
-      (λ t. never k p (sym e ∙ told ∙ rw t))
+  pub cut-inside : made .cut ≤ c .taken + length block
+  cut-inside = omega (arith, since-is)
+
+  pub list-is : list ≡ writtenList (cutsIn c block) list₀
+  unfolding writtenList
+  list-is = puts .kept ∙ sets-written list₀ (cutsIn c block)
+
+  pub ran-full : length list < made .count → refused c ListFull ≡ takenOutcome c block (length list₀)
+  unfolding takenOutcome verdict
+  ran-full h = rw (lt-ltb (length list₀) (length (cutsIn c block)) (omega (arith, counted, puts-long puts)))
+
+  pub all-written : made .count ≤ length list → (window : List ℕ) (signature : ℕ) → window ≡ slidBy (c .window) block → signature ≡ signatureOf (slidBy (c .window) block)
+      → wrote (advancedBy c (length block) (c .taken + length block - made .cut) window signature) (made .count) ≡ takenOutcome c block (length list₀)
+  unfolding takenOutcome verdict
+  all-written h window signature is-window is-signature =
+      let since : blockTaken c block .since ≡ c .taken + length block - made .cut = omega (arith, since-is) in
+      rw (le-ltb (length list₀) (length (cutsIn c block)) (omega (arith, counted, puts-long puts)))
+      (ap₂ wrote (ap₂ (advancedBy c (length block) (c .taken + length block - made .cut)) is-window is-signature ∙ sym (block-taken block c _ ok since)) counted)

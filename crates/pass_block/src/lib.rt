@@ -5,10 +5,9 @@ ghost use Prim.Native.Nat.{_+_, _≤_, _<_};
 ghost use lib.ListN.{length};
 ghost use Rattle.terms.specs.Settings.{inRange};
 ghost use Rattle.terms.specs.Answers.{longest};
-ghost use Rattle.cutting.specs.WholeLog.{writtenList};
+ghost use Rattle.lists.specs.Written.{writtenList};
 ghost use Rattle.pass_carry.specs.Carries.{inOrder, cutsIn};
-ghost use Rattle.pass_block.specs.Taking.{advancedBy, takenOf};
-use filling::Filled;
+ghost use Rattle.pass_block.specs.Taking.{advancedBy, takenOutcome};
 use pass_carry::Carry;
 use pass_carry::Outcome;
 use terms::Answer;
@@ -38,24 +37,25 @@ fn advanced(carry: Carry, bytes: u64, since: u64, window: [u8; 48], signature: u
 pub fn take_block(carry: Carry, block: &[u8], list: &mut [u64]) -> Outcome
     requires { ⌜ (inRange (carry .settings) ≡ true) × (inOrder carry ≡ true) ⌝ }
     requires { ⌜ (0 < length (now block)) × (carry .taken + length (now block) ≤ longest) ⌝ }
-    ensures { λ r. ⌜ r ≡ takenOf carry (now (block .entry)) (length (now (list .entry))) ⌝ }
-    ensures { λ _. ⌜ now (list .exit) ≡ writtenList (cutsIn carry (now (block .entry))) (now (list .entry)) ⌝ }
+    ensures answer { λ r. ⌜ r ≡ takenOutcome carry (now (block .entry)) (length (now (list .entry))) ⌝ }
+    ensures list { λ _. ⌜ now (list .exit) ≡ writtenList (cutsIn carry (now (block .entry))) (now (list .entry)) ⌝ }
 {
-    let leaving = signature::tables::leaving();
-    let pushed = signature::tables::pushed();
+    let tables = signature::tables();
     let settings = carry.settings;
     let window = carry.window;
     let both = window::joined(window, block);
-    let first = search::first_cut(settings, carry.since, &both, block, &leaving, &pushed);
+    let first = search::first_cut(settings, carry.since, &both, block, &tables);
     let slid = window::slide(&both, block);
-    let signature = signature::of_window(&slid, 0, &pushed);
-    let filled = filling::fill(carry, first, signature, block, list, &leaving, &pushed);
-    let Filled::Reached(count, since) = filled else {
+    let signature = signature::of_window(&slid, 0, &tables);
+    let made = filling::fill(carry, first, signature, block, list, &tables);
+    let count = made.count;
+    if count > list.len() as u64 {
         return pass_carry::refuse(carry, Refusal::ListFull);
-    };
+    }
     let bytes = block.len() as u64;
+    let since = carry.taken + bytes - made.cut;
     Outcome {
-        answer: Answer::Wrote(count as u64),
+        answer: Answer::Wrote(count),
         carry: advanced(carry, bytes, since, slid, signature),
     }
 }

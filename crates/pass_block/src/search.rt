@@ -6,10 +6,11 @@ ghost use mathlib.Core.List.{_++_};
 ghost use Prim.Native.Nat.{max, _-_, _<_};
 ghost use lib.ListN.{length, take};
 ghost use Rattle.terms.specs.Settings.{inRange};
-ghost use Rattle.signature.specs.Signatures.{leavingTable, pushedTable};
-ghost use Rattle.pass_block.specs.Taking.{Heads, firstCut};
+ghost use Rattle.signature.specs.Signatures.{signatureTables};
+ghost use Rattle.pass_block.specs.Taking.{headOf, firstCut};
 use cutting::search::first_mark;
 use cutting::search::smaller;
+use signature::Tables;
 use terms::Settings;
 
 // What is left of a piece's least length once so many bytes of it have come: at least the byte that comes next.
@@ -36,20 +37,19 @@ pub fn first_cut(
     since: u64,
     head: &[u8; 96],
     block: &[u8],
-    leaving: &[u32; 256],
-    pushed: &[u32; 256],
+    tables: &Tables,
 ) -> usize
     requires { ⌜ (inRange settings ≡ true) × (since < settings .maximum) ⌝ }
-    requires { ⌜ (length (now head) ≡ 96) × Heads (now head) (take 48 (now head)) (now block) ⌝ }
-    requires { ⌜ (now leaving ≡ leavingTable) × (now pushed ≡ pushedTable) ⌝ }
+    requires { ⌜ (length (now head) ≡ 96) × (now head ≡ headOf (take 48 (now head)) (now block)) ⌝ }
+    requires { ⌜ now tables ≡ signatureTables ⌝ }
     ensures { λ r. ⌜ r ≡ firstCut settings since (take 48 (now (head .entry)) ++ now (block .entry)) (length (now (block .entry))) ⌝ }
 {
     let first = still_to_come(settings.minimum, since);
     let last = smaller((settings.maximum - since) as usize, block.len());
     let edge = smaller(48, last);
-    let at = first_mark(settings, head, 48 + first, 48 + edge, leaving, pushed) - 48;
+    let at = first_mark(settings, head, 48 + first, 48 + edge, tables) - 48;
     if at < edge {
         return at;
     }
-    first_mark(settings, block, larger(first, 48), last, leaving, pushed)
+    first_mark(settings, block, larger(first, 48), last, tables)
 }

@@ -4,13 +4,13 @@ ghost use Prim.Native.Nat.{_+_, _≤_};
 ghost use lib.ListN.{length, take};
 ghost use Rattle.signature.specs.Signatures.{window};
 ghost use Rattle.pass_carry.specs.Carries.{slidBy};
-ghost use Rattle.pass_block.specs.Taking.{Heads};
+ghost use Rattle.pass_block.specs.Taking.{headOf};
 use cutting::search::smaller;
 use words::runs::put_bytes;
 
-// The window and, after it, the block's first 48 bytes, as many as there are.
+// The window and, after it, the block's first 48 bytes, as many as there are, then zeros.
 pub fn joined(window: [u8; 48], block: &[u8]) -> [u8; 96]
-    ensures { λ r. ⌜ Heads r window (now (block .entry)) ⌝ }
+    ensures { λ r. ⌜ r ≡ headOf window (now (block .entry)) ⌝ }
 {
     let mut both = [0; 96];
     let count = smaller(48, block.len());
@@ -32,7 +32,7 @@ fn window_at(bytes: &[u8], from: usize) -> [u8; 48]
 
 // The last 48 bytes once the block is taken. The head is the window and the block's first 48 bytes.
 pub fn slide(head: &[u8; 96], block: &[u8]) -> [u8; 48]
-    requires { ⌜ (length (now head) ≡ 96) × Heads (now head) (take 48 (now head)) (now block) ⌝ }
+    requires { ⌜ (length (now head) ≡ 96) × (now head ≡ headOf (take 48 (now head)) (now block)) ⌝ }
     ensures { λ r. ⌜ r ≡ slidBy (take 48 (now (head .entry))) (now (block .entry)) ⌝ }
 {
     let count = block.len();

@@ -3,7 +3,6 @@ use Prim.Native.Nat.{ℕ, suc, _+_, _≤_, _<_}
 use mathlib.Core.Path.{_≡_, sym, _∙_, subst, subst₂}
 use mathlib.Core.Bool.{Bool, true, false, _&&_, _||_}
 use mathlib.Core.List.{List, [], _∷_, _++_}
-use native.Mathlib.Nat.{add-zero}
 use native.Mathlib.Omega.{arith}
 use lib.Dec.{leb, eqb}
 use lib.ListN.{length, take, drop}
@@ -14,7 +13,7 @@ use Rattle.rule.proofs.Hops.{UpTo, past, hop-to, hop-long, hop-rises, hop-here,
 use Rattle.signature.specs.Signatures.{signatureOf}
 use Rattle.cutting.specs.Marks.{matches}
 use Rattle.pass_carry.specs.declared.Carry.{Carry}
-use Rattle.pass_carry.specs.Carries.{cutsAt, byteTaken, blockTaken, cutsIn}
+use Rattle.pass_carry.specs.Carries.{cutsAt, byteTaken, cutsIn}
 use Rattle.pass_carry.proofs.OneByte.{since-cut, since-on, cuts-cut, cuts-on}
 use Rattle.pass_carry.proofs.Sees.{Sees, first-window, sees-on}
 
@@ -48,7 +47,6 @@ pub record Continues (mark : ℕ → Bool) (c : Carry) (m : ℕ) : Type 0 where
 -- where the block leaves off: last is the last cut, and the cuts made are the hops from m
 pub record Hopped (mark : ℕ → Bool) (c : Carry) (block : List ℕ) (m : ℕ) : Type 0 where
   pub last : ℕ
-  pub tied : last + blockTaken c block .since ≡ c .taken + length block
   pub cuts : UpTo (hop mark (c .settings .minimum) (c .settings .maximum)) (c .taken + length block) m (cutsIn c block) last
 
 module _ (mark : ℕ → Bool) (c : Carry) (b : ℕ) (bs : List ℕ) (sees : Sees mark c (b ∷ bs)) {m : ℕ} (at : Continues mark c m) where
@@ -85,11 +83,10 @@ module _ (mark : ℕ → Bool) (c : Carry) (b : ℕ) (bs : List ℕ) (sees : See
 
 -- a block's cuts are the hops up to its end, from the last cut before it
 pub block-hops : (mark : ℕ → Bool) (block : List ℕ) (c : Carry) (m : ℕ) → Sees mark c block → Continues mark c m → Hopped mark c block m
-unfolding byteTaken blockTaken cutsIn
+unfolding byteTaken cutsIn
 block-hops mark [] c m sees at =
     record {
       last = m;
-      tied = at .tied ∙ sym (add-zero (c .taken));
       cuts = past {c = m} (omega (arith, at .ahead));
     }
 block-hops mark (b ∷ bs) c m sees at =
@@ -101,7 +98,6 @@ block-hops mark (b ∷ bs) c m sees at =
     let rest = block-hops mark bs (byteTaken c b) (c .taken + 1) (sees-on mark c b bs sees) (on .1) in
     record {
       last = rest .last;
-      tied = omega (arith, rest .tied);
       cuts = subst (λ l. UpTo onward (c .taken + suc (length bs)) m l (rest .last)) (sym (cuts-cut c b e bs))
           (hop-to (on .0) (omega arith) (subst (λ x. UpTo onward x (c .taken + 1) (cutsIn (byteTaken c b) bs) (rest .last)) longer (rest .cuts)));
     })
@@ -109,6 +105,5 @@ block-hops mark (b ∷ bs) c m sees at =
     let rest = block-hops mark bs (byteTaken c b) m (sees-on mark c b bs sees) (none-on mark c b bs sees at e) in
     record {
       last = rest .last;
-      tied = omega (arith, rest .tied);
       cuts = subst₂ (λ x l. UpTo onward x m l (rest .last)) longer (sym (cuts-on c b e bs)) (rest .cuts);
     })

@@ -1,13 +1,16 @@
--- What a block leaves in each part of the carry, but for the bytes since the last cut.
+-- What a block leaves in each part of the carry.
 use Prim.Native.Nat.{ℕ, _+_}
 use mathlib.Core.Path.{_≡_, refl, sym, ap, _∙_}
 use mathlib.Core.List.{List, [], _∷_, append-nil}
 use native.Mathlib.Nat.{add-zero}
 use native.Mathlib.Omega.{arith}
 use lib.ListN.{length, drop, length-append, length-drop}
+use Rattle.laws.specs.Last.{lastOr}
+use Rattle.laws.proofs.Cases.{by-test}
 use Rattle.signature.specs.Signatures.{signatureOf}
 use Rattle.pass_carry.specs.declared.Carry.{Carry}
-use Rattle.pass_carry.specs.Carries.{slid, slidBy, byteTaken, blockTaken}
+use Rattle.pass_carry.specs.Carries.{slid, slidBy, cutsAt, byteTaken, blockTaken, cutsIn}
+use Rattle.pass_carry.proofs.OneByte.{since-cut, since-on, cuts-cut, cuts-on}
 use Rattle.pass_carry.proofs.Sees.{length-slid, slid-on, later-window}
 
 pub length-slid-by : (w block : List ℕ) → length w ≡ 48 → length (slidBy w block) ≡ 48
@@ -43,3 +46,12 @@ parts (b ∷ bs) c whole sig =
       signature-true = rest .signature-true;
       closed-kept = rest .closed-kept;
     }
+
+-- the bytes since the last cut, which was m before the block
+pub since-last : (block : List ℕ) (c : Carry) (m : ℕ) → m + c .since ≡ c .taken → lastOr m (cutsIn c block) + blockTaken c block .since ≡ c .taken + length block
+unfolding byteTaken blockTaken cutsIn lastOr
+since-last [] c m tied = tied ∙ sym (add-zero (c .taken))
+since-last (b ∷ bs) c m tied =
+    by-test (cutsAt c b)
+    (λ e. rw (cuts-cut c b e bs) (since-last bs (byteTaken c b) (c .taken + 1) (omega (arith, since-cut c b e)) ∙ omega arith))
+    (λ e. rw (cuts-on c b e bs) (since-last bs (byteTaken c b) m (omega (arith, since-on c b e)) ∙ omega arith))

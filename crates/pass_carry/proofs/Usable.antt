@@ -32,5 +32,5 @@ usable c fine order whole =
       begun = leb-true _ _ (a .0);
       below = ltb-true _ _ (b .0);
       signed = eqb-true _ _ (d .0);
-      short = leb-true (c .taken) longest (both-true {a = allZero (take (48 - c .taken) (c .window))} (d .1) .1);
+      short = leb-true (c .taken) longest (both-true (both-true {a = allZero (take (48 - c .taken) (c .window))} (d .1) .1) .0);
     }

@@ -15,14 +15,15 @@ allZero [] = true
 allZero (b ∷ bs) = eqb b 0 && allZero bs
 
 -- bytes since the last cut are at most the bytes taken and below maximum; the signature is that of the 48;
--- places before the log's start are zero; the bytes taken are at most 2^40
+-- places before the log's start are zero; the bytes taken are at most 2^40; and `closed` says one of two things, open (0) or closed (1)
 unfoldable pub inOrder : Carry → Bool
 inOrder c =
     leb (c .since) (c .taken)
     && (ltb (c .since) (c .settings .maximum)
     && (eqb (c .signature) (signatureOf (c .window))
     && (allZero (take (48 - c .taken) (c .window))
-    && leb (c .taken) longest)))
+    && (leb (c .taken) longest
+    && leb (c .closed) 1))))
 
 -- nothing taken yet, and open
 unfoldable pub freshCarry : Settings → Carry
@@ -33,7 +34,7 @@ freshCarry s =
       since = 0;
       window = replicate 48 0;
       signature = 0;
-      closed = false;
+      closed = 0;
     }
 
 -- the last 48 bytes, one byte later

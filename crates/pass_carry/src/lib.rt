@@ -17,7 +17,8 @@ pub struct Carry {
     // the last 48 bytes, oldest first, zeros before the log's start
     pub window: [u8; 48],
     pub signature: u32,
-    pub closed: bool,
+    // 0 while it is open, 1 once it is closed; a number, since the carry comes from outside
+    pub closed: u32,
 }
 
 // What a call answers, and the carry that it hands back.

@@ -1,17 +1,12 @@
 // Whether a carry is in order.
 ghost use mathlib.Core.Path.{_≡_};
 ghost use Prim.Native.Nat.{_-_};
+ghost use Rattle.terms.specs.Rows.{verdict};
 ghost use Rattle.pass_carry.specs.Carries.{allZero, inOrder};
 ghost use Rattle.pass_carry.specs.Outcomes.{carryRows};
-ghost use Rattle.pass_carry.specs.declared.order.Verdict.the-variants.{Wrong, Fine};
 use super::Carry;
 use terms::Refusal;
-
-// What the rows that judge every carry say of one.
-pub enum Verdict {
-    Fine,
-    Wrong(Refusal),
-}
+use terms::Verdict;
 
 fn all_zero(bytes: &[u8]) -> bool
     ensures { λ r. ⌜ r ≡ allZero (now (bytes .entry)) ⌝ }
@@ -45,8 +40,8 @@ pub fn in_order(carry: Carry) -> bool
         return false;
     }
     let window = carry.window;
-    let pushed = signature::tables::pushed();
-    let signature = signature::of_window(&window, 0, &pushed);
+    let tables = signature::tables();
+    let signature = signature::of_window(&window, 0, &tables);
     if carry.signature != signature {
         return false;
     }
@@ -57,12 +52,15 @@ pub fn in_order(carry: Carry) -> bool
     if taken > terms::LONGEST {
         return false;
     }
+    if carry.closed > 1 {
+        return false;
+    }
     true
 }
 
 // A carry handed in: its settings, its order, whether it is closed.
 pub fn judge(carry: Carry) -> Verdict
-    ensures { λ r. ⌜ r ≡ carryRows carry Wrong Fine ⌝ }
+    ensures { λ r. ⌜ r ≡ verdict (carryRows carry) ⌝ }
 {
     let settings = carry.settings;
     if !settings.in_range() {
@@ -71,7 +69,7 @@ pub fn judge(carry: Carry) -> Verdict
     if !in_order(carry) {
         return Verdict::Wrong(Refusal::CarryNotInOrder);
     }
-    if carry.closed {
+    if carry.closed == 1 {
         return Verdict::Wrong(Refusal::CarryClosed);
     }
     Verdict::Fine

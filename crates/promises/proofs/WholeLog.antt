@@ -1,27 +1,110 @@
--- `rows` and `refused-leaves` of cutting a whole log.
-use Prim.Native.Nat.{ℕ}
-use mathlib.Core.Path.{_≡_}
-use mathlib.Core.List.{List}
+-- Demand 2, first half: marks follow Rabin's fingerprint, cuts the one-pass rule, and a whole log that is not refused gets that one list.
+use Prim.Native.Nat.{ℕ, _+_, _-_, _/_, _%_, _^_, _≤_, _<_}
+use mathlib.Core.Path.{_≡_, refl, sym, ap, _∙_}
+use mathlib.Core.Bool.{true, not}
+use mathlib.Core.Logic.{_↔_}
+use mathlib.Core.List.{List, [], _∷_}
+use native.Mathlib.Omega.{arith}
+use lib.Dec.{lit<, ltb}
 use lib.ListN.{length}
+use borrow.Author.Tests.{leb-true, ltb-false, eqb-true, le-leb, eq-eqb}
+use Rattle.laws.proofs.Cases.{both-true}
 use Rattle.terms.specs.declared.Settings.{Settings}
-use Rattle.terms.specs.declared.Answer.the-variants.{Refused}
+use Rattle.terms.specs.declared.Answer.the-variants.{Wrote, Refused}
 use Rattle.terms.specs.declared.Refusal.the-variants.{ListFull}
-use Rattle.terms.specs.Answers.{answerNumber, answerCount}
-use Rattle.terms.specs.Rows.{verdict, ruled, firstRow}
-use Rattle.terms.proofs.Verdicts.{through, Leaves, refused-leaves}
+use Rattle.terms.specs.Settings.{inRange}
+use Rattle.terms.specs.Answers.{answerNumber, longest}
+use Rattle.terms.specs.Rows.{verdict, firstRow}
+use Rattle.terms.proofs.Ranges.{ranges}
+use Rattle.terms.proofs.Verdicts.{Leaves, through, clear, refused-leaves}
 use Rattle.lists.specs.Written.{writtenList}
-use Rattle.cutting.specs.Marks.{cutList}
+use Rattle.lists.specs.WellFormed.{wellFormed, lengthOf}
+use Rattle.lists.proofs.Reaching.{Reaches, there, step, reaches-long}
+use Rattle.rule.specs.Rule.{OnePass}
+use Rattle.rule.proofs.Whole as rule
+use Rattle.signature.specs.Polynomials.{rem}
+use Rattle.signature.specs.Signatures.{number, window, signature, signatureOf, degree, lowPart}
+use Rattle.signature.proofs.Remainders.{rem-exactly}
+use Rattle.cutting.specs.Marks.{mark, matches, cutList}
 use Rattle.cutting.specs.Calls.{cutLogRows, cutLogAnswer, cutLogLeaves}
+use Rattle.cutting.proofs.Reaching as cutting
+use Rattle.promises.specs.Tables.{numbered}
+use Rattle.promises.specs.OneList.{Marked, Pieces, no-more, last, piece, Lists}
+use Rattle.promises.proofs.Successes.{wrote-all}
 
-module _ (s : Settings) (log : List ℕ) where
-  pub whole-log-rows : (room : ℕ) → answerNumber (cutLogAnswer s log room) ≡ firstRow (cutLogRows s log room)
+told-of-mark : (s : Settings) (log : List ℕ) (p : ℕ) → mark s log p ≡ true → Marked s log p
+unfolding mark matches signatureOf signature
+told-of-mark s log p is-mark =
+    let low = both-true is-mark in
+    let high = both-true (low .1) in
+    let bytes = number (window log (p - 48)) in
+    let told = rem-exactly degree lowPart (lit< tt) bytes (rem degree lowPart bytes) .0 refl in
+    record {
+      above = leb-true _ _ (low .0);
+      inside = leb-true _ _ (high .0);
+      remainder = rem degree lowPart bytes;
+      quotient = told .1 .0;
+      reduced = told .0;
+      divided = told .1 .1;
+      on-target = eqb-true _ _ (high .1);
+    }
+
+mark-as-told : (s : Settings) (log : List ℕ) (p : ℕ) → Marked s log p → mark s log p ≡ true
+unfolding mark matches signatureOf signature
+mark-as-told s log p told =
+    let is-rem = rem-exactly degree lowPart (lit< tt) (number (window log (p - 48))) (told .remainder) .1
+    (told .reduced, (told .quotient, told .divided)) in
+    rw (le-leb _ _ (told .above), le-leb _ _ (told .inside), eq-eqb _ _ (ap (λ r. r % 2 ^ s .bits) (sym is-rem) ∙ told .on-target))
+
+pub marks : (s : Settings) (log : List ℕ) (p : ℕ) → mark s log p ≡ true ↔ Marked s log p
+marks s log p = (told-of-mark s log p, mark-as-told s log p)
+
+pieces-of : {lo hi n c : ℕ} {l : List ℕ} → Reaches lo hi n c l → Pieces lo hi n c l
+pieces-of there = no-more
+pieces-of (step up near far there) = last up near
+pieces-of {n = n} (step {x = x} up near far (step up′ near′ far′ more)) =
+    let below : x < n = omega (arith, reaches-long more) in piece (far below) near below (pieces-of (step up′ near′ far′ more))
+
+module _ (settings : Settings) (log : List ℕ) where
+  module _ (ok : inRange settings ≡ true) where
+    -- a list is that of the log exactly where each of its cuts is the next after the one before, by the rule, up to the end
+    pub one-pass : (l : List ℕ) → OnePass (mark settings log) (settings .minimum) (settings .maximum) (length log) 0 l ↔ (cutList settings log ≡ l)
+    one-pass =
+        let in-range = ranges settings ok in
+        rule.one-pass (mark settings log) (settings .minimum) (settings .maximum) (length log) (in-range .positive) (in-range .ordered)
+
+    pub pieces : Pieces (settings .minimum) (settings .maximum) (length log) 0 (cutList settings log)
+    pieces =
+        let in-range = ranges settings ok in
+        pieces-of (cutting.cuts-reach (mark settings log) (settings .minimum) (settings .maximum) (length log) (in-range .positive) (in-range .ordered) 0 (omega arith))
+
+    -- so that it can be amended and written on a sheet
+    pub true-list : length log ≤ longest → (wellFormed (settings .minimum) (settings .maximum) (cutList settings log) ≡ true) × (lengthOf (cutList settings log) ≡ length log)
+    true-list = cutting.true-list settings log ok
+
+  -- document 01's order: 1, 2, 5; and the guard
+  pub whole-log-table : (room : ℕ)
+      → numbered (cutLogRows settings log room)
+      ≡ (1, not (inRange settings))
+      ∷ (2, ltb (2 ^ 40) (length log))
+      ∷ (5, ltb room (length log / settings .minimum + 1))
+      ∷ (17, ltb room (length (cutList settings log)))
+      ∷ []
+  unfolding numbered cutLogRows
+  whole-log-table room = refl
+
+  pub whole-log-rows : (room : ℕ) → answerNumber (cutLogAnswer settings log room) ≡ firstRow (cutLogRows settings log room)
   unfolding answerNumber cutLogAnswer
-  whole-log-rows room = through answerNumber (verdict (cutLogRows s log room)) Refused _
+  whole-log-rows room = through answerNumber (verdict (cutLogRows settings log room)) Refused _
 
-  pub whole-log-count : (room : ℕ) → answerCount (cutLogAnswer s log room) ≡ ruled (verdict (cutLogRows s log room)) (λ _. 0) (length (cutList s log))
-  unfolding answerCount cutLogAnswer
-  whole-log-count room = through answerCount (verdict (cutLogRows s log room)) Refused _
-
-  pub whole-log-leaves : (list : List ℕ) → Leaves (answerNumber (cutLogAnswer s log (length list))) 17 list (writtenList (cutList s log) list) (cutLogLeaves s log list)
+  pub whole-log-leaves : (list : List ℕ)
+      → Leaves (answerNumber (cutLogAnswer settings log (length list))) 17 list (writtenList (cutList settings log) list) (cutLogLeaves settings log list)
   unfolding cutLogLeaves
-  whole-log-leaves list = rw (whole-log-rows (length list)) (refused-leaves (verdict (cutLogRows s log (length list))) ListFull)
+  whole-log-leaves list = rw (whole-log-rows (length list)) (refused-leaves (verdict (cutLogRows settings log (length list))) ListFull)
+
+  -- a success counts the log's cuts, and writes them over the list's first entries
+  pub whole-log : (list : List ℕ) {k : ℕ} → cutLogAnswer settings log (length list) ≡ Wrote k → Lists list (cutLogLeaves settings log list) (cutList settings log) k
+  unfolding cutLogAnswer cutLogLeaves cutLogRows
+  whole-log list e =
+      wrote-all (verdict (cutLogRows settings log (length list))) (cutList settings log) list e
+      (λ v. ltb-false _ _ (clear _ _ _ (clear _ _ _ (clear _ _ _ (clear _ _ _ v .1) .1) .1) .0))

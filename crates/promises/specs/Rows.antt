@@ -8,10 +8,7 @@ use Rattle.terms.specs.declared.Settings.{Settings}
 use Rattle.terms.specs.declared.Label.{Label}
 use Rattle.terms.specs.Labels.{byteOf}
 use Rattle.terms.specs.Settings.{inRange}
-use Rattle.terms.specs.Answers.{longest, roomFor}
 use Rattle.lists.specs.WellFormed.{wellFormed}
-use Rattle.pass_carry.specs.declared.Carry.{Carry}
-use Rattle.pass_carry.specs.Carries.{inOrder, cutsIn}
 use Rattle.sheet.specs.Trailer.{mostCuts, trailerRight}
 use Rattle.sheet.specs.Sheets.{checked}
 use Rattle.sheet.specs.Read.{hasTrailer, hasList, trailerOf, sheetIn}
@@ -33,30 +30,6 @@ whether false number later = later
 unfoldable pub firstRow : List Row → ℕ
 firstRow [] = 0
 firstRow (r ∷ rows) = whether (r .holds) (r .number) (firstRow rows)
-
--- a fresh carry: 1
-unfoldable pub freshRows : Settings → List Row
-freshRows s = row 1 (not (inRange s)) ∷ []
-
--- a block: 1, 3, 4, 2, 5, and the guard
-unfoldable pub blockRows : Carry → List ℕ → ℕ → List Row
-blockRows c block room =
-    row 1 (not (inRange (c .settings)))
-    ∷ row 3 (not (inOrder c))
-    ∷ row 4 (c .closed)
-    ∷ row 2 (ltb longest (c .taken + length block))
-    ∷ row 5 (ltb room (roomFor (c .settings .minimum) (length block)))
-    ∷ row 17 (ltb room (length (cutsIn c block)))
-    ∷ []
-
--- closing: 1, 3, 4, 5
-unfoldable pub closeRows : Carry → ℕ → List Row
-closeRows c room =
-    row 1 (not (inRange (c .settings)))
-    ∷ row 3 (not (inOrder c))
-    ∷ row 4 (c .closed)
-    ∷ row 5 (ltb room 1)
-    ∷ []
 
 -- writing a sheet: 1, 10, 16, 5
 unfoldable pub writeSheetRows : Settings → List ℕ → ℕ → List Row

@@ -6,21 +6,21 @@ use Rattle.terms.specs.declared.Refusal.the-variants.{SettingsOutOfRange
 use Rattle.terms.specs.declared.Refusal.the-variants.{BayMalformed, ListNotWellFormed, EditOutOfRange, NoSheet, CheckWordWrong, TrailerWrong, OtherLabel, TooManyCuts, ListFull}
 use Rattle.terms.specs.Refusals.{numberOf}
 
-pub numbered : (why : Refusal) → 0 < numberOf why
-numbered SettingsOutOfRange = lit< tt
-numbered LogTooLong = lit< tt
-numbered CarryNotInOrder = lit< tt
-numbered CarryClosed = lit< tt
-numbered RoomTooShort = lit< tt
-numbered RecordTooLong = lit< tt
-numbered NoSuchSegment = lit< tt
-numbered BayNotDone = lit< tt
-numbered BayMalformed = lit< tt
-numbered ListNotWellFormed = lit< tt
-numbered EditOutOfRange = lit< tt
-numbered NoSheet = lit< tt
-numbered CheckWordWrong = lit< tt
-numbered TrailerWrong = lit< tt
-numbered OtherLabel = lit< tt
-numbered TooManyCuts = lit< tt
-numbered ListFull = lit< tt
+pub some-number : (why : Refusal) → 0 < numberOf why
+some-number SettingsOutOfRange = lit< tt
+some-number LogTooLong = lit< tt
+some-number CarryNotInOrder = lit< tt
+some-number CarryClosed = lit< tt
+some-number RoomTooShort = lit< tt
+some-number RecordTooLong = lit< tt
+some-number NoSuchSegment = lit< tt
+some-number BayNotDone = lit< tt
+some-number BayMalformed = lit< tt
+some-number ListNotWellFormed = lit< tt
+some-number EditOutOfRange = lit< tt
+some-number NoSheet = lit< tt
+some-number CheckWordWrong = lit< tt
+some-number TrailerWrong = lit< tt
+some-number OtherLabel = lit< tt
+some-number TooManyCuts = lit< tt
+some-number ListFull = lit< tt

@@ -1,7 +1,7 @@
 // Amending the list of a log in which one stretch was replaced.
 ghost use mathlib.Core.Path.{_≡_};
 ghost use lib.ListN.{length};
-ghost use Rattle.amending.specs.Answers.{amendAnswer, amendList};
+ghost use Rattle.amending.specs.Answers.{amendAnswer, amendLeaves};
 ghost use Rattle.thrunglow.specs.Amends.{countsOf};
 use amending::edits::Edit;
 use terms::Settings;
@@ -16,7 +16,7 @@ pub struct Amendment {
 }
 
 fn counted(amendment: amending::Amendment) -> Amendment
-    ensures { λ r. ⌜ r ≡ countsOf amendment ⌝ }
+    ensures answer { λ r. ⌜ r ≡ countsOf amendment ⌝ }
 {
     match amendment {
         amending::Amendment::Amended { front, recut, back } => Amendment {
@@ -44,8 +44,8 @@ pub extern "C" fn thrunglow_amend(
     log: &[u8],
     list: &mut [u64],
 ) -> Amendment
-    ensures { λ r. ⌜ r ≡ countsOf (amendAnswer settings (now (old .entry)) (record { at = at; removed = removed; added = added }) (now (log .entry)) (length (now (list .entry)))) ⌝ }
-    ensures { λ r. ⌜ now (list .exit) ≡ amendList settings (now (old .entry)) (record { at = at; removed = removed; added = added }) (now (log .entry)) (now (list .entry)) ⌝ }
+    ensures answer { λ r. ⌜ r ≡ countsOf (amendAnswer settings (now (old .entry)) (record { at = at; removed = removed; added = added }) (now (log .entry)) (length (now (list .entry)))) ⌝ }
+    ensures list { λ r. ⌜ now (list .exit) ≡ amendLeaves settings (now (old .entry)) (record { at = at; removed = removed; added = added }) (now (log .entry)) (now (list .entry)) ⌝ }
 {
     let edit = Edit { at, removed, added };
     counted(amending::amend(settings, old, edit, log, list))

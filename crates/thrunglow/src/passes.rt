@@ -1,7 +1,7 @@
 // The single pass: a fresh carry, a block, and closing.
 ghost use mathlib.Core.Path.{_≡_};
 ghost use lib.ListN.{length};
-ghost use Rattle.pass.specs.Calls.{freshOf, blockOf, blockList, closeOf, closeList};
+ghost use Rattle.pass.specs.Calls.{freshOutcome, blockOutcome, blockLeaves, closeOutcome, closeLeaves};
 ghost use Rattle.thrunglow.specs.Pass.{passedOf};
 use super::answers::numbered;
 use pass_carry::Carry;
@@ -31,23 +31,23 @@ fn handed(outcome: Outcome) -> Passed
 
 #[no_mangle]
 pub extern "C" fn thrunglow_fresh(settings: Settings) -> Passed
-    ensures { λ r. ⌜ r ≡ passedOf (freshOf settings) ⌝ }
+    ensures answer { λ r. ⌜ r ≡ passedOf (freshOutcome settings) ⌝ }
 {
     handed(pass::fresh(settings))
 }
 
 #[no_mangle]
 pub extern "C" fn thrunglow_block(carry: Carry, block: &[u8], list: &mut [u64]) -> Passed
-    ensures { λ r. ⌜ r ≡ passedOf (blockOf carry (now (block .entry)) (length (now (list .entry)))) ⌝ }
-    ensures { λ _. ⌜ now (list .exit) ≡ blockList carry (now (block .entry)) (now (list .entry)) ⌝ }
+    ensures answer { λ r. ⌜ r ≡ passedOf (blockOutcome carry (now (block .entry)) (length (now (list .entry)))) ⌝ }
+    ensures list { λ _. ⌜ now (list .exit) ≡ blockLeaves carry (now (block .entry)) (now (list .entry)) ⌝ }
 {
     handed(pass::block(carry, block, list))
 }
 
 #[no_mangle]
 pub extern "C" fn thrunglow_close(carry: Carry, list: &mut [u64]) -> Passed
-    ensures { λ r. ⌜ r ≡ passedOf (closeOf carry (length (now (list .entry)))) ⌝ }
-    ensures { λ _. ⌜ now (list .exit) ≡ closeList carry (now (list .entry)) ⌝ }
+    ensures answer { λ r. ⌜ r ≡ passedOf (closeOutcome carry (length (now (list .entry)))) ⌝ }
+    ensures list { λ _. ⌜ now (list .exit) ≡ closeLeaves carry (now (list .entry)) ⌝ }
 {
     handed(pass::close(carry, list))
 }

@@ -33,7 +33,7 @@ pub fn block(input: &mut Input) -> u32 {
     let (choices, mut window) = (input.byte(), input.bytes::<48>());
     window[..48_u64.saturating_sub(taken) as usize].fill(0);
     let signature = second::remainder(&window) as u32;
-    let mut carry = Carry { settings, taken, since, window, signature, closed: choices >= 240 };
+    let mut carry = Carry { settings, taken, since, window, signature, closed: (choices >= 240).into() };
     match choices % 16 {
         0 => carry.settings = input.settings(),
         1 => carry.taken = input.number(),

@@ -15,13 +15,14 @@ pub struct Carry {
     pub window: [u8; WINDOW],
     /// The signature of the window.
     pub signature: u64,
-    pub closed: bool,
+    /// 0 open, 1 closed.
+    pub closed: u32,
 }
 
 impl Carry {
     /// An open carry that has taken none.
     fn open(settings: Settings) -> Carry {
-        Carry { settings, taken: 0, since: 0, window: [0; WINDOW], signature: 0, closed: false }
+        Carry { settings, taken: 0, since: 0, window: [0; WINDOW], signature: 0, closed: 0 }
     }
 
     pub fn in_order(&self) -> bool {
@@ -31,6 +32,7 @@ impl Carry {
             && self.signature == remainder(&self.window)
             && self.window[..before_the_log].iter().all(|&byte| byte == 0)
             && self.taken <= LONGEST
+            && self.closed <= 1
     }
 
     /// The rows that a block and a close have in common.
@@ -39,7 +41,7 @@ impl Carry {
             Some(1)
         } else if !self.in_order() {
             Some(3)
-        } else if self.closed {
+        } else if self.closed == 1 {
             Some(4)
         } else {
             None
@@ -101,5 +103,5 @@ pub fn close(carry: &Carry, list: &[u64]) -> (u32, u64, Carry, Vec<u64>) {
         return refused(5);
     }
     let end: &[u64] = if carry.since > 0 { &[carry.taken] } else { &[] };
-    (0, end.len() as u64, Carry { closed: true, ..*carry }, written_over(list, end))
+    (0, end.len() as u64, Carry { closed: 1, ..*carry }, written_over(list, end))
 }

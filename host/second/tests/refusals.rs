@@ -14,11 +14,11 @@ fn settings() {
     let with = |bits, target, minimum, maximum| Settings { bits, target, minimum, maximum };
     for fine in [HOUSE, FINE, with(1, 1, 48, 48), with(31, (1 << 31) - 1, 1 << 24, 1 << 24), with(8, 255, 48, 1 << 24)]
     {
-        let carry = Carry { settings: fine, taken: 0, since: 0, window: [0; 48], signature: 0, closed: false };
+        let carry = Carry { settings: fine, taken: 0, since: 0, window: [0; 48], signature: 0, closed: 0 };
         assert_eq!(fresh(&fine), (0, carry));
     }
     let zero =
-        Carry { settings: Settings::default(), taken: 0, since: 0, window: [0; 48], signature: 0, closed: false };
+        Carry { settings: Settings::default(), taken: 0, since: 0, window: [0; 48], signature: 0, closed: 0 };
     for bad in [
         BAD,
         with(0, 1, 48, 200),
@@ -42,7 +42,7 @@ fn settings() {
 
 #[test]
 fn a_block() {
-    let mut carry = Carry { settings: BAD, taken: LONGEST, since: LONGEST, closed: true, ..fresh(&FINE).1 };
+    let mut carry = Carry { settings: BAD, taken: LONGEST, since: LONGEST, closed: 1, ..fresh(&FINE).1 };
     let refused = |carry: &Carry, bytes: &[u8], list: &[u64], number| {
         assert_eq!(block(carry, bytes, list), (number, 0, *carry, list.to_vec()));
     };
@@ -51,7 +51,9 @@ fn a_block() {
     refused(&carry, &[0], &[], 3);
     carry.since = 7;
     refused(&carry, &[0], &[], 4);
-    carry.closed = false;
+    carry.closed = 2;
+    refused(&carry, &[0], &[], 3);
+    carry.closed = 0;
     refused(&carry, &[0], &[], 2);
     refused(&carry, &[], &[], 5);
     assert_eq!(block(&carry, &[], &[7]), (0, 0, carry, vec![7]));
@@ -63,18 +65,20 @@ fn a_block() {
 
 #[test]
 fn a_close() {
-    let mut carry = Carry { settings: BAD, taken: 9, since: 10, closed: true, ..fresh(&FINE).1 };
+    let mut carry = Carry { settings: BAD, taken: 9, since: 10, closed: 1, ..fresh(&FINE).1 };
     let refused = |carry: &Carry, number| assert_eq!(close(carry, &[]), (number, 0, *carry, vec![]));
     refused(&carry, 1);
     carry.settings = FINE;
     refused(&carry, 3);
     carry.since = 9;
     refused(&carry, 4);
-    carry.closed = false;
+    carry.closed = 2;
+    refused(&carry, 3);
+    carry.closed = 0;
     refused(&carry, 5);
-    assert_eq!(close(&carry, &[7, 7]), (0, 1, Carry { closed: true, ..carry }, vec![9, 7]));
+    assert_eq!(close(&carry, &[7, 7]), (0, 1, Carry { closed: 1, ..carry }, vec![9, 7]));
     carry.since = 0;
-    assert_eq!(close(&carry, &[7, 7]), (0, 0, Carry { closed: true, ..carry }, vec![7, 7]));
+    assert_eq!(close(&carry, &[7, 7]), (0, 0, Carry { closed: 1, ..carry }, vec![7, 7]));
 }
 
 #[test]

@@ -81,7 +81,7 @@ fn blocks_of_any_lengths() {
         }
         let (number, count, closed, list) = close(&carry, &[u64::MAX]);
         found.extend(&list[..count as usize]);
-        assert_eq!((number, closed), (0, Carry { closed: true, ..carry }));
+        assert_eq!((number, closed), (0, Carry { closed: 1, ..carry }));
         assert_eq!(found, cuts(&settings, &log));
     }
 }

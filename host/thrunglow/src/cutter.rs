@@ -15,14 +15,16 @@ pub struct Carry {
     pub window: [u8; 48],
     /// The signature of the window.
     pub signature: u32,
-    pub closed: bool,
+    /// 0 while it is open, 1 once it is closed; a carry with any other number is not in order.
+    pub closed: u32,
 }
 
 impl Carry {
     /// The bytes that [`Carry::to_bytes`] gives.
     pub const BYTES: usize = 93;
 
-    /// The carry as bytes to store: each part in turn, big-endian.
+    /// The carry as bytes to store: each part in turn, big-endian, `closed` as one byte (a number too large for it, which no call
+    /// takes, as 255).
     pub fn to_bytes(&self) -> [u8; Carry::BYTES] {
         let Settings { bits, target, minimum, maximum } = self.settings;
         let parts: [&[u8]; 9] = [
@@ -34,7 +36,7 @@ impl Carry {
             &self.since.to_be_bytes(),
             &self.window,
             &self.signature.to_be_bytes(),
-            &[u8::from(self.closed)],
+            &[u8::try_from(self.closed).unwrap_or(u8::MAX)],
         ];
         parts.concat().try_into().expect("93 bytes")
     }
@@ -46,12 +48,11 @@ impl Carry {
         let word = |at: usize| u32::from_be_bytes(bytes[at..at + 4].try_into().expect("4 bytes"));
         let settings = Settings { bits: word(0), target: word(4), minimum: number(8), maximum: number(16) };
         let window = bytes[40..88].try_into().expect("48 bytes");
-        let closed = match bytes[92] {
-            0 => false,
-            1 => true,
-            _ => return Err(Error::CarryNotInOrder),
-        };
-        Ok(Carry { settings, taken: number(24), since: number(32), window, signature: word(88), closed })
+        let closed = bytes[92];
+        if closed > 1 {
+            return Err(Error::CarryNotInOrder);
+        }
+        Ok(Carry { settings, taken: number(24), since: number(32), window, signature: word(88), closed: closed.into() })
     }
 }
 

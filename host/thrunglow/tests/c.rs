@@ -53,6 +53,8 @@ block: number 0, 2: 100 200
 block: number 0, 1: 300
 close: number 0, 1: 400
 close again: number 4, 0:
+close, neither open nor closed: number 3, 0:
+block, its settings wrong too: number 1, 0:
 segment 2: number 0, 2: 1 0
 record 1: number 0, 4: 3 300 200 300
 merge too early: number 8, 0:

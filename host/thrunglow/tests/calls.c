@@ -49,6 +49,12 @@ int main(void) {
     show("close", passed.number, passed.count, list);
     passed = thrunglow_close(passed.carry, list, 1);
     show("close again", passed.number, passed.count, list);
+    passed.carry.closed = 2;
+    passed = thrunglow_close(passed.carry, list, 1);
+    show("close, neither open nor closed", passed.number, passed.count, list);
+    passed.carry.settings.bits = 0;
+    passed = thrunglow_block(passed.carry, log, 250, list, 6);
+    show("block, its settings wrong too", passed.number, passed.count, list);
 
     thrunglow_Outcome recorded = thrunglow_segment(settings, log, 400, 150, 10, 2, board, 30);
     show("segment 2", recorded.number, recorded.count, board + 20);

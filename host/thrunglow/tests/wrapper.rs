@@ -2,7 +2,7 @@
 
 use noise::Noise;
 use std::num::NonZeroUsize;
-use thrunglow::{Carry, Cutter, Edit, Error, Label, Settings, Sheet, amend, cut_log, cut_parallel, merge, record};
+use thrunglow::{Carry, Cutter, Edit, Error, Label, Settings, Sheet, amend, cut_log, cut_parallel, merge, raw, record};
 
 const WRONG: Settings = Settings { bits: 0, target: 0, minimum: 0, maximum: 0 };
 const TIGHT: Settings = Settings { bits: 8, target: 1, minimum: 48, maximum: 200 };
@@ -92,11 +92,31 @@ fn a_carry_is_judged_when_it_is_taken_up() {
     assert_eq!(resumed(carry), None);
     assert_eq!(resumed(Carry { settings: WRONG, ..carry }), Some(Error::SettingsOutOfRange));
     assert_eq!(resumed(Carry { since: 1, ..carry }), Some(Error::CarryNotInOrder));
-    assert_eq!(resumed(Carry { closed: true, ..carry }), Some(Error::CarryClosed));
+    assert_eq!(resumed(Carry { closed: 1, ..carry }), Some(Error::CarryClosed));
     let mut bytes = carry.to_bytes();
     assert_eq!(Carry::from_bytes(&bytes), Ok(carry));
     bytes[92] = 2;
     assert_eq!(Carry::from_bytes(&bytes), Err(Error::CarryNotInOrder));
+}
+
+/// `closed` is a number of the caller's: any but 0 and 1 is 3, after 1 and before every other row.
+#[test]
+fn a_carry_neither_open_nor_closed_is_not_in_order() {
+    let fresh = Cutter::new(TIGHT).expect("in range").carry();
+    for closed in [2, 255, 256, 1 << 31, u32::MAX] {
+        for (settings, number) in [(TIGHT, 3), (WRONG, 1)] {
+            let carry = Carry { settings, closed, ..fresh };
+            let refused = raw::Passed { number, count: 0, carry };
+            let mut list = [7; 3];
+            assert_eq!(raw::block(carry, &[0; 100], &mut list), refused);
+            assert_eq!(raw::block(carry, &[], &mut []), refused);
+            assert_eq!(raw::close(carry, &mut list), refused);
+            assert_eq!(list, [7; 3]);
+        }
+        let carry = Carry { closed, ..fresh };
+        assert_eq!(Cutter::resume(carry).err(), Some(Error::CarryNotInOrder));
+        assert_eq!(Carry::from_bytes(&carry.to_bytes()), Err(Error::CarryNotInOrder));
+    }
 }
 
 #[test]

@@ -45,7 +45,7 @@ pub fn carry(noise: &mut Noise, carry: &mut Carry) {
         2 => carry.since = noise.pick(&[carry.taken, carry.taken.wrapping_add(1), carry.settings.maximum, 1 << 40]),
         3 => carry.window[noise.below(48) as usize] ^= 1 << noise.below(8),
         4 => carry.signature ^= 1 << noise.below(32),
-        _ => carry.closed = !carry.closed,
+        _ => carry.closed = noise.pick(&[0, 1, 2, 255, 256, 1 << 31, u32::MAX]),
     }
 }
 

@@ -189,5 +189,5 @@ pub fn carry(noise: &mut Noise, settings: Settings) -> Carry {
     let before_the_log = 48_u64.saturating_sub(taken) as usize;
     window[..before_the_log].fill(0);
     let signature = second::remainder(&window) as u32;
-    Carry { settings, taken, since, window, signature, closed: noise.once_in(10) }
+    Carry { settings, taken, since, window, signature, closed: noise.once_in(10).into() }
 }

@@ -43,7 +43,7 @@ fn each_bit_of_the_settings() {
         compare::merge(settings, 400, 150, 8, &board, &list);
         compare::amend(settings, &LIST_C, [150, 0, 0], &log, &list);
         compare::write_sheet(settings, true, &LIST_C, &[7; 70]);
-        let carry = Carry { settings, taken: 0, since: 0, window: [0; 48], signature: 0, closed: false };
+        let carry = Carry { settings, taken: 0, since: 0, window: [0; 48], signature: 0, closed: 0 };
         compare::block(carry, &log, &list);
         compare::close(carry, &list);
     }
@@ -63,6 +63,7 @@ fn each_bit_of_a_carry() {
         }
         for bit in 0..32 {
             altered.push(Carry { signature: carry.signature ^ 1 << bit, ..carry });
+            altered.push(Carry { closed: carry.closed ^ 1 << bit, ..carry });
         }
         for bit in 0..384 {
             let mut window = carry.window;
@@ -71,7 +72,7 @@ fn each_bit_of_a_carry() {
             altered.push(Carry { window, signature: second::remainder(&window) as u32, ..carry });
         }
         altered.extend(each_bit_of_settings(TIGHT).map(|settings| Carry { settings, ..carry }));
-        let closed: Vec<Carry> = altered.iter().map(|carry| Carry { closed: true, ..*carry }).collect();
+        let closed: Vec<Carry> = altered.iter().map(|carry| Carry { closed: 1, ..*carry }).collect();
         for carry in altered.into_iter().chain(closed) {
             compare::block(carry, &prefix[..120], &[7; 3]);
             compare::close(carry, &[7]);

@@ -127,7 +127,7 @@ fn the_most_cuts_of_a_sheet() {
 fn carries_near_the_longest_log() {
     for taken in [LONGEST - 100, LONGEST - 48, LONGEST - 1, LONGEST, LONGEST + 1, u64::MAX - 99, u64::MAX] {
         for since in EXTREMES.into_iter().chain([99, 199, 200, 201, taken]) {
-            let carry = Carry { settings: TIGHT, taken, since, window: [0; 48], signature: 0, closed: false };
+            let carry = Carry { settings: TIGHT, taken, since, window: [0; 48], signature: 0, closed: 0 };
             for length in [0, 1, 47, 48, 49, 99, 100, 101] {
                 compare::block(carry, &vec![1; length], &[7; 3]);
             }

@@ -1,4 +1,4 @@
--- `listing::read_all` is safe and ends: the measure is the number of turns that are left, and nothing has to hold from turn to turn.
+-- `cutlist_program::read_all` is safe and ends: the measure is the number of turns that are left, and nothing has to hold from turn to turn.
 use borrow.Author.Needs.{needs}
 use Rattle.cutlist_program.proofs.read_all.Statement.{statement}
 use Rattle.cutlist_program.proofs.read_all.Tie as tie

@@ -34,5 +34,5 @@ fn a_carry_at_the_longest_log() {
     let full = Carry { taken: LONGEST, since: 7, ..fresh(&WIDE).1 };
     assert_eq!(block(&full, &[], &[9]), (0, 0, full, vec![9]));
     assert_eq!(block(&full, &[0], &[9]), (2, 0, full, vec![9]));
-    assert_eq!(close(&full, &[9]), (0, 1, Carry { closed: true, ..full }, vec![LONGEST]));
+    assert_eq!(close(&full, &[9]), (0, 1, Carry { closed: 1, ..full }, vec![LONGEST]));
 }

@@ -6,13 +6,13 @@ use lib.Dec.{leb}
 use lib.ListN.{length, drop}
 use borrow.Author.Needs.{needs}
 use borrow.Author.Tests.{le-leb, lt-leb}
-use Rattle.amending.specs.Parts.{before}
+use Rattle.amending.specs.Parts.{until}
 use Rattle.amending.proofs.Places.{climb-on, climb-stops, climb-end}
 use Rattle.amending.proofs.meeting.climb.Statement.{statement}
 use Rattle.amending.proofs.meeting.climb.Tie as tie
 
 abbrev Inv-loop : tie.InvT-loop
-Inv-loop list offset i₀ i = (i ≤ length list) × (length (before (leb offset) list) ≡ i + length (before (leb offset) (drop i list)))
+Inv-loop list offset i₀ i = (i ≤ length list) × (length (until (leb offset) list) ≡ i + length (until (leb offset) (drop i list)))
 
 abbrev μ-loop : tie.MeasureT-loop
 μ-loop list offset i₀ i = length list - i

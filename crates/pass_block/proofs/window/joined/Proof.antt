@@ -1,15 +1,17 @@
 -- `taking::window::joined` meets its contract: what is written stands side by side.
 use borrow.Author.Needs.{needs}
 use denote.Ref.{now}
-use Prim.Native.Nat.{ℕ, _+_, min}
-use mathlib.Core.Path.{_≡_, sym, ap, ap₂, _∙_}
-use mathlib.Core.List.{List, _++_}
+use Prim.Native.Nat.{ℕ, zero, suc, _-_, min}
+use mathlib.Core.Path.{_≡_, refl, sym, ap, ap₂, _∙_}
+use mathlib.Core.List.{List, _++_, append-assoc}
+use native.Mathlib.Nat.{sub-zero}
 use native.Mathlib.Omega.{arith}
-use lib.ListN.{length, take, replicate, length-append}
+use lib.ListN.{length, take, drop, replicate, length-append}
 use lib.Seq.{take-all, length-take-le}
-use Rattle.laws.specs.Over.{overFrom}
+use Rattle.laws.specs.Over.{over, overFrom}
 use Rattle.laws.proofs.Cases.{by-lt}
-use Rattle.laws.proofs.Writing.{take-over, overFrom-zero, overFrom-over}
+use Rattle.laws.proofs.Writing.{overFrom-zero, overFrom-over}
+use Rattle.pass_block.specs.Taking.{headOf}
 use Rattle.pass_block.proofs.window.joined.Statement.{statement}
 use Rattle.pass_block.proofs.window.joined.Tie as tie
 
@@ -27,18 +29,23 @@ first-bytes block n e =
     (λ h. take-all n block (omega arith) ∙ sym (take-all 48 block (omega arith)))
     (λ h. let same : n ≡ 48 = omega arith in ap (λ k. take k block) same)
 
-side-by-side : (w s z : List ℕ) → take (length w + length s) (overFrom (length w) s (overFrom 0 w z)) ≡ w ++ s
-side-by-side w s z =
-    ap (λ l. take (length w + length s) (overFrom (length w) s l)) (overFrom-zero w z)
-    ∙ ap₂ take (sym (length-append w s)) (overFrom-over w s z) ∙ take-over (w ++ s) z
+-- some of so many zeros dropped
+drop-zeros : (k n : ℕ) → drop {A = ℕ} k (replicate n 0) ≡ replicate (n - k) 0
+drop-zeros zero n = rw sub-zero
+drop-zeros (suc k) zero = let none : 0 - suc k ≡ 0 = omega arith in rw none
+drop-zeros (suc k) (suc n) = let fewer : suc n - suc k ≡ n - k = omega arith in rw fewer (drop-zeros k n)
 
-both-is : (w block z first both : List ℕ) (count : ℕ) → length w ≡ 48 → count ≡ min 48 (length block)
-    → first ≡ overFrom 0 w z → both ≡ overFrom 48 (take count block) first → take (48 + min 48 (length block)) both ≡ w ++ take 48 block
-both-is w block z first both count long is e f =
+both-is : (w block first both : List ℕ) (count : ℕ) → length w ≡ 48 → count ≡ min 48 (length block)
+    → first ≡ overFrom 0 w (replicate 96 0) → both ≡ overFrom 48 (take count block) first → both ≡ headOf w block
+unfolding over
+both-is w block first both count long is e f =
     let some = part block count is in
-    let all : 48 + min 48 (length block) ≡ length w + length (take count block) = omega arith in
-    ap₂ take all (f ∙ ap₂ (λ n l. overFrom n (take count block) l) (sym long) e)
-    ∙ side-by-side w (take count block) z ∙ ap (λ l. w ++ l) (first-bytes block count is)
+    let all : 96 - length (w ++ take count block) ≡ 48 - length block = rw length-append (omega arith) in
+    f ∙ ap₂ (λ n l. overFrom n (take count block) l) (sym long) (e ∙ overFrom-zero w (replicate 96 0))
+    ∙ overFrom-over w (take count block) (replicate 96 0)
+    ∙ ap (λ l. (w ++ take count block) ++ l) (drop-zeros (length (w ++ take count block)) 96 ∙ ap (λ m. replicate m 0) all)
+    ∙ append-assoc w (take count block) (replicate (48 - length block) 0)
+    ∙ ap (λ l. w ++ (l ++ replicate (48 - length block) 0)) (first-bytes block count is)
 
 slice-aggregate-put-bytes-3 : tie.Need-slice-aggregate-put-bytes-3
 slice-aggregate-put-bytes-3 c = sym (part _ _ (c .before .before .before .before .before .smaller .ensures))
@@ -51,7 +58,7 @@ put-bytes-requires-2 c κs =
 returns : tie.Need-returns
 returns c =
     let start = c .before .before .before .before .before .before .before .before .before .before in
-    both-is (start .args .t1) (now (start .args .block)) (replicate 96 0) _ _ _ (whole start) (c .before .before .before .before .before .before .before .before .smaller .ensures) (c .before .before .before .before .before .put-bytes .ensures) (c .before .put-bytes2 .ensures)
+    both-is (start .args .t1) (now (start .args .block)) _ _ _ (whole start) (c .before .before .before .before .before .before .before .before .smaller .ensures) (c .before .before .before .before .before .put-bytes .ensures) (c .before .put-bytes2 .ensures)
 
 pub joined-spec : {M : Type 1} → statement M
 joined-spec =

@@ -10,15 +10,15 @@ use lib.Seq.{take-all, drop-append-add, length-take-le}
 use Rattle.signature.specs.Signatures.{window}
 use Rattle.pass_carry.specs.Carries.{slidBy}
 use Rattle.pass_carry.proofs.Parts.{length-slid-by}
-use Rattle.pass_block.specs.Taking.{Heads}
+use Rattle.pass_block.specs.Taking.{headOf}
 use Rattle.pass_block.proofs.Seen.{head-windows}
 use Rattle.pass_block.proofs.window.slide.Statement.{statement}
 use Rattle.pass_block.proofs.window.slide.Tie as tie
 
 module _ (head w block : List ℕ) (whole : length w ≡ 48) where
-  from-head : Heads head w block → length block < 48 → window head (length block) ≡ slidBy w block
+  from-head : head ≡ headOf w block → length block < 48 → window head (length block) ≡ slidBy w block
   from-head heads h =
-      head-windows head w block (length block) whole heads (omega arith) (omega arith) ∙ take-all 48 (slidBy w block) (omega (arith, length-slid-by w block whole))
+      ap (λ l. window l (length block)) heads ∙ head-windows w block (length block) whole (omega arith) (omega arith) ∙ take-all 48 (slidBy w block) (omega (arith, length-slid-by w block whole))
 
   from-block : 48 ≤ length block → window block (length block - 48) ≡ slidBy w block
   from-block h =

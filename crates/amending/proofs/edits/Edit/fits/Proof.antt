@@ -7,6 +7,10 @@ use Rattle.amending.proofs.Fitting.{edit-over, edit-compared}
 use Rattle.amending.proofs.edits.Edit.fits.Statement.{statement}
 use Rattle.amending.proofs.edits.Edit.fits.Tie as tie
 
+-- the place of the change, and what is removed there, lie within the old log
+abbrev low : tie.Else2 → tie.Else1
+low c = c .before .before .before
+
 returns : tie.Need-returns
 unfolding editFits
 returns c = simp (lt-leb _ _ (c .if1 .taken))
@@ -16,10 +20,10 @@ unfolding editFits
 returns-2 c = simp (le-leb _ _ (c .before .before .before .if1 .left), lt-leb _ _ (c .if2 .taken))
 
 returns-3 : tie.Need-returns-3
-returns-3 c = sym (edit-over _ _ _ (c .before .before .before .before .before .if1 .left) (c .before .before .if2 .left) (c .if3 .taken))
+returns-3 c = sym (edit-over _ _ _ (low (c .before .before) .if1 .left) (c .before .before .if2 .left) (c .if3 .taken))
 
 returns-4 : tie.Need-returns-4
-returns-4 c = edit-compared _ _ _ (c .before .before .before .before .before .before .before .if1 .left) (c .before .before .before .before .if2 .left) (c .before .before .if3 .left)
+returns-4 c = let two = c .before .before .before .before in edit-compared _ _ _ (low two .if1 .left) (two .if2 .left) (c .before .before .if3 .left)
 
 pub fits-spec : {M : Type 1} → statement M
 fits-spec = tie.close (tie.spec returns returns-2 returns-3 (λ c. search needs) returns-4)
