@@ -12,7 +12,6 @@ use Rattle.laws.proofs.Cases.{by-lt, clash}
 use Rattle.terms.specs.declared.Settings.{Settings}
 use Rattle.rule.proofs.Next.{next-step}
 use Rattle.rule.proofs.Hops.{UpTo, leaps, no-more, hop-rises, next-hop}
-use Rattle.lists.specs.declared.Made.{Made}
 use Rattle.lists.specs.Puts.{Puts}
 use Rattle.lists.proofs.Putting.{Underway, begin, rest-is, one-more, ended}
 use Rattle.signature.specs.Signatures.{signatureOf}
@@ -84,6 +83,13 @@ module _ (c : Carry) (block : List ℕ) (ok : Usable c) (some : 0 < length block
     abbrev piece : ℕ
     piece = c .taken + next - cut
 
+    abbrev last : ℕ
+    last = c .taken + length block
+
+    -- the piece reaches to the block's end
+    ends : length block ≤ next → cut + piece ≡ last
+    ends h = omega (arith, f .after, f .inside)
+
     shortened : min (onward c block cut) (c .taken + length block) ≡ c .taken + next
     shortened = sym (next-hop (seenBy c block) (c .settings .minimum) (c .settings .maximum) (c .taken + length block) cut) ∙ f .ahead
 
@@ -93,7 +99,7 @@ module _ (c : Carry) (block : List ℕ) (ok : Usable c) (some : 0 < length block
         by-lt next (length block)
         (λ h. omega (arith, shortened))
         (λ h.
-        cut-here (seenBy c block) (c .settings .minimum) (c .settings .maximum) cut piece (c .taken + length block) (omega (arith, f .after, f .inside)) (ok .ranged .ordered) (omega (arith, shortened))
+        cut-here (seenBy c block) (c .settings .minimum) (c .settings .maximum) cut piece last (ends h) (ok .ranged .ordered) (omega (arith, shortened))
         (sym (end-test c block ok some (length block - next) piece signature (omega arith) is-signature) ∙ t)
         ∙ omega (arith, f .inside))
 
@@ -103,7 +109,7 @@ module _ (c : Carry) (block : List ℕ) (ok : Usable c) (some : 0 < length block
         by-lt next (length block)
         (λ h. absurd (clash (sym (below-end (c .settings) (length block - next) piece signature (omega arith)) ∙ t)))
         (λ h.
-        none-here (seenBy c block) (c .settings .minimum) (c .settings .maximum) cut piece (c .taken + length block) (omega (arith, f .after, f .inside)) (ok .ranged .ordered) (omega (arith, shortened))
+        none-here (seenBy c block) (c .settings .minimum) (c .settings .maximum) cut piece last (ends h) (ok .ranged .ordered) (omega (arith, shortened))
         (sym (end-test c block ok some (length block - next) piece signature (omega arith) is-signature) ∙ t))
 
     -- the cuts rise

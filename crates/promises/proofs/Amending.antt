@@ -1,10 +1,10 @@
 -- Amending: its rows of the table, what it leaves and counts, and demand 3, the amended list.
-use Prim.Native.Nat.{ℕ, _+_, _/_, _^_, _≤_, _<_}
+use Prim.Native.Nat.{ℕ, _+_, _≤_, _<_}
 use mathlib.Core.Path.{_≡_, refl, sym, _∙_}
-use mathlib.Core.Bool.{true, not}
-use mathlib.Core.List.{List, [], _∷_, _++_}
+use mathlib.Core.Bool.{true}
+use mathlib.Core.Logic.{_↔_}
+use mathlib.Core.List.{List, _++_}
 use native.Mathlib.Omega.{arith}
-use lib.Dec.{ltb}
 use lib.ListN.{length, getD}
 use borrow.Author.Tests.{ltb-false}
 use Rattle.laws.proofs.Cases.{by-test}
@@ -34,14 +34,17 @@ use Rattle.amending.specs.Told.{FrontTold, Recut}
 use Rattle.amending.specs.Answers.{amendmentNumber, frontOf, recutOf, backOf, newCutsOf, editFits, counts, amendRows, amendAnswer, amendLeaves}
 use Rattle.amending.proofs.Afresh.{replaced, amend-cuts-afresh}
 use Rattle.amending.proofs.Stretch.{stretch-parts}
-use Rattle.amending.proofs.Fitting.{edit-told}
+use Rattle.amending.proofs.Fitting.{edit-told, edit-fits}
 use Rattle.amending.proofs.Told.{front-told, recut-told}
 use Rattle.amending.proofs.Chained.{well-formed-again, new-length, meeting-there}
-use Rattle.promises.specs.Tables.{numbered}
 use Rattle.promises.specs.Amendments.{Counts, Counted, AsAfresh}
 
 none-holds : (v : Verdict) → ruled v numberOf 0 ≡ 0 → v ≡ Fine
 none-holds v success = by-verdict v (λ fine. fine) (λ why wrong. let none : numberOf why ≡ 0 = rw wrong at success in absurd (omega (arith, some-number why)))
+
+-- an edit that row 11 lets pass: s is not past the old length n, d not past what follows s, and the new length is n - d + e
+pub edit-told-exactly : (n : ℕ) (edit : Edit) (bytes : ℕ) → editFits n edit bytes ≡ true ↔ ((edit .at + edit .removed ≤ n) × (n + edit .added ≡ bytes + edit .removed))
+edit-told-exactly n edit bytes = (edit-told n edit bytes, λ told. edit-fits n edit bytes (omega (arith, told .0)) (omega (arith, told .0)) (told .1))
 
 -- beside a refusal each count is 0
 pub amend-uncounted : (answer : Amendment) → (amendmentNumber answer ≡ 0 → ⊥) → Counts answer 0 0 0
@@ -50,19 +53,6 @@ amend-uncounted (Amended f r b) refusal = absurd (refusal refl)
 amend-uncounted (Refused why) refusal = record { kept = refl; anew = refl; moved = refl }
 
 module _ (settings : Settings) (old : List ℕ) (edit : Edit) (log : List ℕ) where
-  -- document 01's order: 1, 10, 11, 2, 5; and the guard
-  pub amend-table : (room : ℕ)
-      → numbered (amendRows settings old edit log room)
-      ≡ (1, not (inRange settings))
-      ∷ (10, not (wellFormed (settings .minimum) (settings .maximum) old))
-      ∷ (11, not (editFits (lengthOf old) edit (length log)))
-      ∷ (2, ltb (2 ^ 40) (length log))
-      ∷ (5, ltb room (length log / settings .minimum + 1))
-      ∷ (17, ltb room (length (amendedList (newCutsOf settings log) old edit)))
-      ∷ []
-  unfolding numbered amendRows
-  amend-table room = refl
-
   pub amend-rows : (room : ℕ) → amendmentNumber (amendAnswer settings old edit log room) ≡ firstRow (amendRows settings old edit log room)
   unfolding amendmentNumber amendAnswer
   amend-rows room = through amendmentNumber (verdict (amendRows settings old edit log room)) Refused (counts (newCutsOf settings log) old edit)

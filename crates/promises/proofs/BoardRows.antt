@@ -1,21 +1,20 @@
 -- The calls on a board, row by row: the rows stand in document 01's order, the number is that of the first that holds, the count
 -- beside it is 0 where one does, and lent memory stays as it was but for one number: 17 keeps the cuts written, 6 what it wrote into the bay.
-use Prim.Native.Nat.{ℕ, zero, suc, _+_, _-_, _/_, _^_}
-use mathlib.Core.Path.{_≡_, refl, sym, ap, _∙_}
-use mathlib.Core.Bool.{false, not}
-use mathlib.Core.List.{List, [], _∷_, _++_}
-use lib.Dec.{lit<, leb, ltb}
+use Prim.Native.Nat.{ℕ, _+_, _-_}
+use mathlib.Core.Path.{_≡_, sym, _∙_}
+use mathlib.Core.Bool.{false}
+use mathlib.Core.List.{List, _∷_}
+use lib.Dec.{lit<}
 use lib.ListN.{length, take}
 use borrow.Author.Tests.{not-true}
-use Rattle.board_bays.specs.Segments.{segments, boardFits, bayFits, segmentFits}
-use Rattle.board_bays.specs.Judging.{callRows, bayRows, baysRows}
+use Rattle.board_bays.specs.Segments.{bayFits, segmentFits}
+use Rattle.board_bays.specs.Judging.{callRows}
 use Rattle.board_bays.proofs.Verdicts.{plain-call}
 use Rattle.terms.specs.declared.Settings.{Settings}
 use Rattle.terms.specs.declared.Answer.the-variants.{Refused}
 use Rattle.terms.specs.declared.Refusal.the-variants.{RecordTooLong, ListFull}
-use Rattle.terms.specs.Settings.{inRange}
 use Rattle.terms.specs.Answers.{answerNumber, answerCount}
-use Rattle.terms.specs.Rows.{Row, verdict, ruled, firstRow}
+use Rattle.terms.specs.Rows.{verdict, ruled, firstRow}
 use Rattle.terms.proofs.Verdicts.{through, last-holds, Leaves, refused-leaves}
 use Rattle.lists.specs.Written.{writtenList}
 use Rattle.board_walk.specs.Walk.{boardWalk}
@@ -24,27 +23,10 @@ use Rattle.board_record.specs.Records.{segmentOf}
 use Rattle.board.specs.Recording.{recordFits, recorded, withBay, recordRows, recordAnswer, recordLeaves, segmentRows, segmentAnswer, segmentLeaves}
 use Rattle.board.specs.Merging.{mergeRows, mergeAnswer, mergeLeaves}
 use Rattle.board_merged.proofs.Orders as orders
-use Rattle.promises.specs.Tables.{numbered}
-use Rattle.promises.specs.Boards.{OthersStay, eightNine}
-
-bays-table : (s : Settings) (n size width : ℕ) (board : List ℕ) (later : List Row) (k i : ℕ)
-    → numbered (baysRows s n size width board k i ++ later) ≡ eightNine s n size width board (numbered later) k i
-unfolding baysRows bayRows numbered eightNine
-bays-table s n size width board later zero i = refl
-bays-table s n size width board later (suc k) i = ap (λ l. _ ∷ _ ∷ l) (bays-table s n size width board later k (suc i))
+use Rattle.promises.specs.Boards.{OthersStay}
 
 -- merging: 1, 2, 7, 5, then bays from the lowest, 8 before 9; and the guard
 module _ (s : Settings) (n size width : ℕ) (board : List ℕ) where
-  pub merge-table : (room : ℕ)
-      → numbered (mergeRows s n size width board room)
-      ≡ (1, not (inRange s))
-      ∷ (2, ltb (2 ^ 40) n)
-      ∷ (7, not (boardFits n size width (length board)))
-      ∷ (5, ltb room (n / s .minimum + 1))
-      ∷ eightNine s n size width board ((17, ltb room (length (boardWalk s n size width board))) ∷ []) (segments n size) 0
-  unfolding mergeRows callRows numbered
-  merge-table room = ap (λ l. _ ∷ _ ∷ _ ∷ _ ∷ l) (bays-table s n size width board _ (segments n size) 0)
-
   pub merge-rows : (room : ℕ) → answerNumber (mergeAnswer s n size width board room) ≡ firstRow (mergeRows s n size width board room)
   unfolding answerNumber mergeAnswer
   merge-rows room = through answerNumber (verdict (mergeRows s n size width board room)) Refused _
@@ -61,16 +43,6 @@ module _ (s : Settings) (n size width : ℕ) (board : List ℕ) where
 
 -- a segment into a bay lent alone: 1, 2, 7, 6
 module _ (s : Settings) (log : List ℕ) (size i : ℕ) where
-  pub record-table : (width : ℕ)
-      → numbered (recordRows s log size width i)
-      ≡ (1, not (inRange s))
-      ∷ (2, ltb (2 ^ 40) (length log))
-      ∷ (7, not (bayFits (length log) size width i))
-      ∷ (6, not (leb (length (segmentOf s log size i .offsets)) (width - 2)))
-      ∷ []
-  unfolding recordRows recordFits callRows numbered
-  record-table width = refl
-
   pub record-rows : (width : ℕ) → answerNumber (recordAnswer s log size width i) ≡ firstRow (recordRows s log size width i)
   unfolding answerNumber recordAnswer
   record-rows width = through answerNumber (verdict (recordRows s log size width i)) Refused _
@@ -97,16 +69,6 @@ module _ (s : Settings) (log : List ℕ) (size i : ℕ) where
 
 -- a segment into its bay of a whole board: the same
 module _ (s : Settings) (log : List ℕ) (size width i : ℕ) where
-  pub segment-table : (entries : ℕ)
-      → numbered (segmentRows s log size width i entries)
-      ≡ (1, not (inRange s))
-      ∷ (2, ltb (2 ^ 40) (length log))
-      ∷ (7, not (segmentFits (length log) size width i entries))
-      ∷ (6, not (leb (length (segmentOf s log size i .offsets)) (width - 2)))
-      ∷ []
-  unfolding segmentRows recordFits callRows numbered
-  segment-table entries = refl
-
   pub segment-rows : (entries : ℕ) → answerNumber (segmentAnswer s log size width i entries) ≡ firstRow (segmentRows s log size width i entries)
   unfolding answerNumber segmentAnswer
   segment-rows entries = through answerNumber (verdict (segmentRows s log size width i entries)) Refused _

@@ -37,21 +37,8 @@ use Rattle.pass.proofs.Prefix.{onward, rises}
 use Rattle.pass.proofs.Closing.{left, fits}
 use Rattle.pass.proofs.SinglePass as pass
 use Rattle.promises.specs.OneList.{Lists}
-use Rattle.promises.specs.SinglePass.{numbered, freshTable, blockTable, closeTable, InOrder, zeroCarry, HandsBack, lastBytes, CarryOf}
+use Rattle.promises.specs.SinglePass.{InOrder, zeroCarry, HandsBack, lastBytes, CarryOf}
 use Rattle.promises.proofs.Successes.{succeeds, wrote-all}
-
--- the rows of each call are those of document 01, in its order
-pub fresh-table : (s : Settings) → numbered (freshRows s) ≡ freshTable s
-unfolding numbered freshRows freshTable
-fresh-table s = refl
-
-pub block-table : (c : Carry) (block : List ℕ) (room : ℕ) → numbered (blockRows c block room) ≡ blockTable c block room
-unfolding numbered blockRows carryRows blockTable
-block-table c block room = refl
-
-pub close-table : (c : Carry) (room : ℕ) → numbered (closeRows c room) ≡ closeTable c room
-unfolding numbered closeRows carryRows closeTable
-close-table c room = refl
 
 zeros-told : (k : ℕ) (bytes : List ℕ) → allZero (take k bytes) ≡ true → (i : ℕ) → i < k → getD bytes i 0 ≡ 0
 unfolding allZero

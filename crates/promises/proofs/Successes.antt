@@ -1,28 +1,19 @@
--- What stands beside a number, for every call that answers a count; and a success of one that writes cuts by a table of rows.
+-- A success of a call that writes cuts by a table of rows: no row holds, and the list is written whole.
 use Prim.Native.Nat.{ℕ, _≤_}
-use mathlib.Core.Path.{_≡_, refl, sym}
+use mathlib.Core.Path.{_≡_, sym}
 use mathlib.Core.List.{List}
-use native.Mathlib.Omega.{arith}
 use lib.ListN.{length}
 use Rattle.laws.proofs.Cases.{impossible}
-use Rattle.terms.specs.declared.Answer.{Answer}
 use Rattle.terms.specs.declared.Answer.the-variants.{Wrote, Refused}
 use Rattle.terms.specs.declared.Refusal.{Refusal}
 use Rattle.terms.specs.declared.Refusal.the-variants.{ListFull}
 use Rattle.terms.specs.declared.Verdict.{Verdict}
 use Rattle.terms.specs.declared.Verdict.the-variants.{Fine}
-use Rattle.terms.specs.Answers.{answerNumber, answerCount}
 use Rattle.terms.specs.Rows.{ruled, leaves}
-use Rattle.terms.proofs.Numbers.{some-number}
 use Rattle.terms.proofs.Verdicts.{succeeded}
 use Rattle.lists.specs.Written.{writtenList}
 use Rattle.lists.proofs.Written.{written-whole}
-use Rattle.promises.specs.OneList.{Values, Lists}
-
-pub values : (answer : Answer) → Values answer
-unfolding answerNumber answerCount
-values (Wrote n) = record { success = λ _. refl; refusal = λ refusal. absurd (refusal refl) }
-values (Refused why) = record { success = λ none. absurd (omega (arith, some-number why)); refusal = λ _. refl }
+use Rattle.promises.specs.OneList.{Lists}
 
 -- a call that wrote: no row holds, and the count is what was to be written
 pub succeeds : (v : Verdict) (m : ℕ) {k : ℕ} → ruled v Refused (Wrote m) ≡ Wrote k → (v ≡ Fine) × (m ≡ k)

@@ -1,11 +1,11 @@
 -- Demand 2, first half: marks follow Rabin's fingerprint, cuts the one-pass rule, and a whole log that is not refused gets that one list.
-use Prim.Native.Nat.{ℕ, _+_, _-_, _/_, _%_, _^_, _≤_, _<_}
+use Prim.Native.Nat.{ℕ, _-_, _%_, _^_, _≤_, _<_}
 use mathlib.Core.Path.{_≡_, refl, sym, ap, _∙_}
-use mathlib.Core.Bool.{true, not}
+use mathlib.Core.Bool.{true}
 use mathlib.Core.Logic.{_↔_}
-use mathlib.Core.List.{List, [], _∷_}
+use mathlib.Core.List.{List}
 use native.Mathlib.Omega.{arith}
-use lib.Dec.{lit<, ltb}
+use lib.Dec.{lit<}
 use lib.ListN.{length}
 use borrow.Author.Tests.{leb-true, ltb-false, eqb-true, le-leb, eq-eqb}
 use Rattle.laws.proofs.Cases.{both-true}
@@ -28,7 +28,6 @@ use Rattle.signature.proofs.Remainders.{rem-exactly}
 use Rattle.cutting.specs.Marks.{mark, matches, cutList}
 use Rattle.cutting.specs.Calls.{cutLogRows, cutLogAnswer, cutLogLeaves}
 use Rattle.cutting.proofs.Reaching as cutting
-use Rattle.promises.specs.Tables.{numbered}
 use Rattle.promises.specs.OneList.{Marked, Pieces, no-more, last, piece, Lists}
 use Rattle.promises.proofs.Successes.{wrote-all}
 
@@ -81,17 +80,6 @@ module _ (settings : Settings) (log : List ℕ) where
     -- so that it can be amended and written on a sheet
     pub true-list : length log ≤ longest → (wellFormed (settings .minimum) (settings .maximum) (cutList settings log) ≡ true) × (lengthOf (cutList settings log) ≡ length log)
     true-list = cutting.true-list settings log ok
-
-  -- document 01's order: 1, 2, 5; and the guard
-  pub whole-log-table : (room : ℕ)
-      → numbered (cutLogRows settings log room)
-      ≡ (1, not (inRange settings))
-      ∷ (2, ltb (2 ^ 40) (length log))
-      ∷ (5, ltb room (length log / settings .minimum + 1))
-      ∷ (17, ltb room (length (cutList settings log)))
-      ∷ []
-  unfolding numbered cutLogRows
-  whole-log-table room = refl
 
   pub whole-log-rows : (room : ℕ) → answerNumber (cutLogAnswer settings log room) ≡ firstRow (cutLogRows settings log room)
   unfolding answerNumber cutLogAnswer

@@ -1,21 +1,13 @@
 -- What the calls on a board leave and answer: document 01, "Segments and the board" and "Numbers answered".
-use Prim.Native.Nat.{ℕ, zero, suc, _+_, _≤_}
+use Prim.Native.Nat.{ℕ, _+_, _*_, _≤_, _<_}
 use mathlib.Core.Path.{_≡_}
-use mathlib.Core.Bool.{Bool, true, not}
-use mathlib.Core.List.{List, _∷_}
+use mathlib.Core.Bool.{true}
+use mathlib.Core.List.{List}
 use lib.ListN.{length}
 use Rattle.laws.specs.Over.{over}
 use Rattle.lists.specs.WellFormed.{wellFormed, lengthOf}
 use Rattle.terms.specs.declared.Settings.{Settings}
-use Rattle.board_bays.specs.Bays.{Record, entries, bayOf, isDone, isSound}
-
--- 8 and 9 for each of the k bays from bay i on, and what follows
-unfoldable pub eightNine : (settings : Settings) (n size width : ℕ) (board : List ℕ) (later : List (ℕ × Bool)) (k i : ℕ) → List (ℕ × Bool)
-eightNine settings n size width board later zero i = later
-eightNine settings n size width board later (suc k) i =
-    (8, not (isDone (bayOf width i board)))
-    ∷ (9, not (isSound settings n size i (bayOf width i board)))
-    ∷ eightNine settings n size width board later k (suc i)
+use Rattle.board_bays.specs.Bays.{Record, entries, bayOf}
 
 -- what number 7 asks of S and R, and of the board or the segment
 pub record ShapeTold (size width : ℕ) : Type 0 where

@@ -1,20 +1,16 @@
--- The single pass as document 01 tells it: its rows by number, a carry in order, what a refusal hands back, and the carry of a log's bytes so far.
-use Prim.Native.Nat.{ℕ, _+_, _/_, _^_, _≤_, _<_}
+-- The single pass as document 01 tells it: a carry in order, what a refusal hands back, and the carry of a log's bytes so far.
+use Prim.Native.Nat.{ℕ, _+_, _^_, _≤_, _<_}
 use mathlib.Core.Path.{_≡_}
-use mathlib.Core.Bool.{Bool, not}
 use mathlib.Core.List.{List, _++_}
-use lib.Dec.{ltb, eqb}
 use lib.ListN.{length, drop, getD, replicate}
 use Rattle.laws.specs.Last.{lastOr}
 use Rattle.terms.specs.declared.Settings.{Settings}
-use Rattle.terms.specs.Settings.{inRange}
 use Rattle.terms.specs.Answers.{answerNumber, answerCount}
 use Rattle.rule.specs.Rule.{cutsUpTo}
 use Rattle.signature.specs.Signatures.{signatureOf}
 use Rattle.cutting.specs.Marks.{mark}
 use Rattle.pass_carry.specs.declared.Carry.{Carry}
 use Rattle.pass_carry.specs.declared.Outcome.{Outcome}
-use Rattle.pass_carry.specs.Carries.{inOrder, cutsIn}
 
 -- bytes since the last cut are at most the bytes taken and below maximum; the signature is that of the 48; places before the log's start are zero;
 -- the bytes taken are at most 2^40; and it is open or closed

@@ -1,9 +1,6 @@
-pub mod CheckWord
-pub mod Offsets
-pub mod Parts
-pub mod Lent
+-- what a call answers and leaves that writes only where no row holds
+pub mod Keeping
+-- what the rows of writing say where none holds
+pub mod Writing
+-- which rows of reading decide
 pub mod Reading
-pub mod RoundTrip
-pub mod Promised
-pub mod Damage
-pub mod Canonical

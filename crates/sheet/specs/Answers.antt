@@ -2,6 +2,7 @@
 -- settings and the count, each 0 beside a refusal.
 use Prim.Native.Nat.{ℕ}
 use Rattle.terms.specs.declared.Settings.{Settings}
+use Rattle.terms.specs.Settings.{noSettings}
 use Rattle.terms.specs.Refusals.{numberOf}
 use Rattle.sheet.specs.declared.Sheet.{Sheet}
 use Rattle.sheet.specs.declared.Sheet.the-variants.{Read, Refused}
@@ -16,7 +17,7 @@ sheetLabel (Refused why) = 0
 
 unfoldable pub sheetSettings : Sheet → Settings
 sheetSettings (Read label settings count) = settings
-sheetSettings (Refused why) = record { bits = 0; target = 0; minimum = 0; maximum = 0 }
+sheetSettings (Refused why) = noSettings
 
 unfoldable pub sheetCount : Sheet → ℕ
 sheetCount (Read label settings count) = count

@@ -1,5 +1,3 @@
-pub mod Trailer
-pub mod Sheets
 pub mod Write
 pub mod Read
 pub mod Answers

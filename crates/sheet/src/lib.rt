@@ -1,27 +1,19 @@
 // The cut sheet: a list of cuts with its settings and label, written to bytes and read back.
-mod body;
-mod check;
-mod judging;
-mod trailer;
-
-use body::take_offsets;
-use check::check_word;
-use judging::Verdict;
-use judging::judge;
+use sheet_format::body::body_in;
+use sheet_format::body::take_offsets;
+use sheet_format::judging::judge;
+use sheet_format::sealing::put_sheet;
+use sheet_format::trailer::trailer_of;
 use terms::Answer;
 use terms::Label;
 use terms::Refusal;
 use terms::Settings;
-use trailer::put_fields;
-use words::numbers::put_number;
-use words::numbers::put_numbers;
+use terms::Verdict;
 ghost use mathlib.Core.Path.{_≡_};
-ghost use Prim.Native.Nat.{_+_, _*_, _≤_, _<_};
 ghost use lib.ListN.{length};
-ghost use Rattle.laws.specs.Over.{over};
-ghost use Rattle.sheet.specs.Sheets.{sheetOf};
-ghost use Rattle.sheet.specs.Write.{writeAnswer, bytesAfter};
-ghost use Rattle.sheet.specs.Read.{readAnswer, listAfter};
+ghost use Rattle.terms.specs.Rows.{verdict};
+ghost use Rattle.sheet.specs.Write.{writeSheetRows, writeSheetAnswer, writeSheetLeaves};
+ghost use Rattle.sheet.specs.Read.{readSheetAnswer, readSheetLeaves};
 
 // What reading a sheet answers: the label's byte, the settings and the number of cuts, or why it is refused.
 pub enum Sheet {
@@ -33,52 +25,49 @@ pub enum Sheet {
     Refused(Refusal),
 }
 
-// Writes a sheet. It is inner: the caller sees that K is a byte and that there is room.
-fn put_sheet(settings: Settings, label: Label, list: &[u64], bytes: &mut [u8])
-    requires { ⌜ (settings .bits < 256) × (8 * length (now list) + 32 ≤ length (now bytes)) ⌝ }
-    ensures { λ _. ⌜ now (bytes .exit) ≡ over (sheetOf settings label (now (list .entry))) (now (bytes .entry)) ⌝ }
+// The rows of writing in their order: 1, 10, 16 and 5.
+fn judge_list(settings: Settings, list: &[u64], room: usize) -> Verdict
+    ensures { λ r. ⌜ r ≡ verdict (writeSheetRows settings (now (list .entry)) room) ⌝ }
 {
-    put_numbers(8, list, 0, bytes);
-    let count = list.len();
-    put_fields(settings, label, count, bytes);
-    let end = 8 * count + 28;
-    let check = check_word(&bytes[..end]);
-    put_number(4, check as u64, end, bytes);
+    if !settings.in_range() {
+        return Verdict::Wrong(Refusal::SettingsOutOfRange);
+    }
+    if !lists::well_formed(settings.minimum, settings.maximum, list) {
+        return Verdict::Wrong(Refusal::ListNotWellFormed);
+    }
+    if list.len() > 1_048_576 {
+        return Verdict::Wrong(Refusal::TooManyCuts);
+    }
+    if room < 8 * list.len() + 32 {
+        return Verdict::Wrong(Refusal::RoomTooShort);
+    }
+    Verdict::Fine
 }
 
 // Writes a list with its settings and label as a sheet, from the first of the bytes on.
 pub fn write_sheet(settings: Settings, label: Label, list: &[u64], bytes: &mut [u8]) -> Answer
-    ensures { λ r. ⌜ r ≡ writeAnswer settings (now (list .entry)) (length (now (bytes .entry))) ⌝ }
-    ensures { λ _. ⌜ now (bytes .exit) ≡ bytesAfter settings label (now (list .entry)) (now (bytes .entry)) ⌝ }
+    ensures answer { λ r. ⌜ r ≡ writeSheetAnswer settings (now (list .entry)) (length (now (bytes .entry))) ⌝ }
+    ensures bytes { λ _. ⌜ now (bytes .exit) ≡ writeSheetLeaves settings label (now (list .entry)) (now (bytes .entry)) ⌝ }
 {
-    if !settings.in_range() {
-        return Answer::Refused(Refusal::SettingsOutOfRange);
-    }
-    if !lists::well_formed(settings.minimum, settings.maximum, list) {
-        return Answer::Refused(Refusal::ListNotWellFormed);
-    }
-    let count = list.len();
-    if count > 1_048_576 {
-        return Answer::Refused(Refusal::TooManyCuts);
-    }
-    let size = 8 * count + 32;
-    if bytes.len() < size {
-        return Answer::Refused(Refusal::RoomTooShort);
+    match judge_list(settings, list, bytes.len()) {
+        Verdict::Wrong(why) => return Answer::Refused(why),
+        Verdict::Fine => {}
     }
     put_sheet(settings, label, list, bytes);
+    let size = 8 * list.len() + 32;
     Answer::Wrote(size as u64)
 }
 
 // Reads the sheet at the end of the bytes, where it bears the label that is asked for, and writes its list.
 pub fn read_sheet(bytes: &[u8], asked: Label, list: &mut [u64]) -> Sheet
-    ensures { λ r. ⌜ r ≡ readAnswer (now (bytes .entry)) asked (length (now (list .entry))) ⌝ }
-    ensures { λ _. ⌜ now (list .exit) ≡ listAfter (now (bytes .entry)) asked (now (list .entry)) ⌝ }
+    ensures answer { λ r. ⌜ r ≡ readSheetAnswer (now (bytes .entry)) asked (length (now (list .entry))) ⌝ }
+    ensures list { λ _. ⌜ now (list .exit) ≡ readSheetLeaves (now (bytes .entry)) asked (now (list .entry)) ⌝ }
 {
-    let verdict = judge(bytes);
-    let trailer = match verdict {
-        Verdict::Sound(trailer) => trailer,
+    match judge(bytes) {
         Verdict::Wrong(why) => return Sheet::Refused(why),
-    };
+        Verdict::Fine => {}
+    }
+    let trailer = trailer_of(bytes);
     let label = trailer.label;
     let count = trailer.count;
     let wanted = asked.byte();
@@ -88,9 +77,7 @@ pub fn read_sheet(bytes: &[u8], asked: Label, list: &mut [u64]) -> Sheet
     if (list.len() as u64) < count {
         return Sheet::Refused(Refusal::RoomTooShort);
     }
-    let at = bytes.len() - 32;
-    let start = at - trailer.distance as usize;
-    take_offsets(&bytes[start..at], list);
+    take_offsets(body_in(trailer.distance, bytes), list);
     let settings = trailer.settings;
     Sheet::Read {
         label,

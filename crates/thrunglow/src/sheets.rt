@@ -1,8 +1,8 @@
 // Cut sheets, written and read.
 ghost use mathlib.Core.Path.{_≡_};
 ghost use lib.ListN.{length};
-ghost use Rattle.sheet.specs.Write.{writeAnswer, bytesAfter};
-ghost use Rattle.sheet.specs.Read.{readAnswer, listAfter};
+ghost use Rattle.sheet.specs.Write.{writeSheetAnswer, writeSheetLeaves};
+ghost use Rattle.sheet.specs.Read.{readSheetAnswer, readSheetLeaves};
 ghost use Rattle.thrunglow.specs.Outcomes.{outcomeOf};
 ghost use Rattle.thrunglow.specs.Sheets.{labelOf, readingOf};
 use super::answers::Outcome;
@@ -43,12 +43,7 @@ fn reading_of(sheet: Sheet) -> Reading
         Sheet::Refused(why) => Reading {
             number: why.number(),
             label: 0,
-            settings: Settings {
-                bits: 0,
-                target: 0,
-                minimum: 0,
-                maximum: 0,
-            },
+            settings: Settings::none(),
             count: 0,
         },
     }
@@ -61,16 +56,16 @@ pub extern "C" fn thrunglow_write_sheet(
     list: &[u64],
     bytes: &mut [u8],
 ) -> Outcome
-    ensures { λ r. ⌜ r ≡ outcomeOf (writeAnswer settings (now (list .entry)) (length (now (bytes .entry)))) ⌝ }
-    ensures { λ r. ⌜ now (bytes .exit) ≡ bytesAfter settings (labelOf live) (now (list .entry)) (now (bytes .entry)) ⌝ }
+    ensures answer { λ r. ⌜ r ≡ outcomeOf (writeSheetAnswer settings (now (list .entry)) (length (now (bytes .entry)))) ⌝ }
+    ensures bytes { λ r. ⌜ now (bytes .exit) ≡ writeSheetLeaves settings (labelOf live) (now (list .entry)) (now (bytes .entry)) ⌝ }
 {
     numbered(sheet::write_sheet(settings, label_of(live), list, bytes))
 }
 
 #[no_mangle]
 pub extern "C" fn thrunglow_read_sheet(bytes: &[u8], live: bool, list: &mut [u64]) -> Reading
-    ensures { λ r. ⌜ r ≡ readingOf (readAnswer (now (bytes .entry)) (labelOf live) (length (now (list .entry)))) ⌝ }
-    ensures { λ r. ⌜ now (list .exit) ≡ listAfter (now (bytes .entry)) (labelOf live) (now (list .entry)) ⌝ }
+    ensures answer { λ r. ⌜ r ≡ readingOf (readSheetAnswer (now (bytes .entry)) (labelOf live) (length (now (list .entry)))) ⌝ }
+    ensures list { λ r. ⌜ now (list .exit) ≡ readSheetLeaves (now (bytes .entry)) (labelOf live) (now (list .entry)) ⌝ }
 {
     reading_of(sheet::read_sheet(bytes, label_of(live), list))
 }

@@ -1,16 +1,31 @@
 -- Comparing two runs of bytes one by one.
-use mathlib.Core.Path.{_≡_, refl, ap, _∙_}
+use mathlib.Core.Path.{_≡_, refl, ap, ap₂, _∙_}
 use mathlib.Core.Bool.{true, false, _&&_}
 use mathlib.Core.List.{List, [], _∷_}
 use Prim.Native.Nat.{ℕ, suc, _+_, _≤_, _<_}
 use native.Mathlib.Omega.{arith}
 use native.Mathlib.Numerals.{add-one}
 use lib.Dec.{eqb}
-use borrow.Author.Tests.{eq-eqb, ne-eqb}
+use borrow.Author.Tests.{eq-eqb, ne-eqb, eqb-true}
 use lib.ListN.{length, getD, drop, drop-of-length-le}
 use lib.Seq.{drop-cons}
-use Rattle.laws.proofs.Cases.{and-false}
+use Rattle.laws.proofs.Cases.{and-false, both-true, impossible}
 use Rattle.words.specs.Runs.{same}
+
+-- every run is the same as itself, and as no other
+pub same-self : (l : List ℕ) → same l l ≡ true
+unfolding same
+same-self [] = refl
+same-self (x ∷ l) = rw (eq-eqb x x refl) (same-self l)
+
+pub same-true : (a b : List ℕ) → same a b ≡ true → a ≡ b
+unfolding same
+same-true [] [] e = refl
+same-true [] (y ∷ b) e = impossible (cc)
+same-true (x ∷ a) [] e = impossible (cc)
+same-true (x ∷ a) (y ∷ b) e =
+    let halves = both-true {a = eqb x y} e in
+    ap₂ (λ (h : ℕ) (r : List ℕ). h ∷ r) (eqb-true x y (halves .0)) (same-true a b (halves .1))
 
 pub same-unequal : (a b : List ℕ) → (length a ≡ length b → ⊥) → same a b ≡ false
 unfolding same

@@ -7,13 +7,12 @@ use mathlib.Core.List.{_++_}
 use native.Mathlib.Omega.{arith}
 use lib.ListN.{length, take}
 use lib.Seq.{take-all, take-at}
-use Rattle.lists.specs.Puts.{Puts}
 use Rattle.signature.specs.Signatures.{signatureOf}
-use Rattle.pass_carry.specs.Carries.{slidBy, cutsIn}
+use Rattle.pass_carry.specs.Carries.{slidBy}
 use Rattle.pass_carry.specs.Outcomes.{wrote}
 use Rattle.pass_carry.proofs.Parts.{length-slid-by}
 use Rattle.pass_carry.proofs.Usable.{Usable, usable}
-use Rattle.pass_block.specs.Taking.{headOf, firstCut, begun}
+use Rattle.pass_block.specs.Taking.{headOf, firstCut}
 use Rattle.pass_block.proofs.Taken.{cut-inside, list-is, ran-full, all-written}
 use Rattle.pass_block.proofs.take_block.Statement.{statement}
 use Rattle.pass_block.proofs.take_block.Tie as tie

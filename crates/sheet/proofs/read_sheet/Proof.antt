@@ -1,59 +1,94 @@
--- `sheet::read_sheet` meets its contract: the verdict decides, or else the label and the room, and the answer what the list holds.
-use mathlib.Core.Path.{_≡_, sym, _∙_}
+-- `sheet::read_sheet` meets its contract: the bytes decide, or else the label, or else the room.
+use mathlib.Core.Path.{_≡_, sym, ap, _∙_}
+use native.Mathlib.Omega.{arith}
+use Prim.Native.Nat.{ℕ, _≤_, _<_}
+use mathlib.Core.List.{List}
 use lib.ListN.{length}
+use Rattle.laws.specs.Over.{over}
+use Rattle.words.specs.Numbers.{numbersOf}
 use borrow.Author.Needs.{needs}
-use borrow.Author.Tests.{eq-eqb, ne-eqb, le-leb, lt-leb}
-use Rattle.sheet.specs.declared.judging.Verdict.the-variants.{Sound}
-use Rattle.sheet.specs.Read.{readAnswer}
-use Rattle.sheet.proofs.Lent.{list-is, list-room}
-use Rattle.sheet.proofs.Reading.{Handed, handed, answerTo, read-is, refused, wrote}
+use Rattle.terms.specs.Labels.{byteOf}
+use Rattle.sheet.specs.declared.Sheet.the-variants.{Read, Refused}
+use Rattle.sheet_format.specs.declared.trailer.Trailer.{Trailer}
+use Rattle.sheet_format.specs.Forms.{cutsForm}
+use Rattle.sheet_format.specs.Clean.{trailerOf, listIn, ReadsCleanly}
+use Rattle.sheet_format.specs.Inner.{Placed}
+use Rattle.sheet.specs.Read.{readSheetAnswer, readSheetLeaves}
+use Rattle.sheet.proofs.Keeping.{kept, done}
+use Rattle.sheet_format.proofs.Lent.{there, right-facts, length-body}
+use Rattle.sheet_format.proofs.Cleanly.{Clean, clean, placed}
+use Rattle.sheet.proofs.Reading.{bytes-refuse, label-refuses, room-refuses, none-refuses}
 use Rattle.sheet.proofs.read_sheet.Statement.{statement}
 use Rattle.sheet.proofs.read_sheet.Tie as tie
 
--- the function's entry, seen from past the verdict
-abbrev start : tie.After-byte → tie.Start
-start c = c .before .before .before .before .before .before .before
+-- judged clean; how the arguments stood
+abbrev entry : tie.After-enum-told → tie.Start
+entry c = c .before .before .before .before .before
 
-stands : (c : tie.After-byte) → Handed (start c .args .bytes .now) (c .before .before .verdict .given .0 .0)
-stands c = handed _ (sym (c .before .before .before .before .judge .ensures) ∙ c .before .before .verdict .given .1)
+cleanly : (c : tie.After-enum-told) → ReadsCleanly cutsForm (entry c .args .bytes .now)
+cleanly c = sym (c .before .before .judge .ensures) ∙ c .enum-told .given .1
 
--- past the verdict, the label and the room decide
-decided : (c : tie.After-byte) → let e = start c .args in readAnswer (e .bytes .now) (e .asked) (length (e .list .now)) ≡ answerTo (e .asked) (length (e .list .now)) (Sound (c .before .before .verdict .given .0 .0))
-decided c = let e = start c .args in read-is (e .bytes .now) (e .asked) (length (e .list .now)) (sym (c .before .before .verdict .given .1) ∙ c .before .before .before .before .judge .ensures)
+judged : (c : tie.After-enum-told) → Clean cutsForm (entry c .args .bytes .now)
+judged c = clean cutsForm _ (cleanly c)
+
+-- the label that was asked for
+abbrev reading : tie.Else1 → tie.After-enum-told
+reading c = c .before .before .before
+
+own : (c : tie.Else1) → let e = entry (reading c) .args in trailerOf (e .bytes .now) .label ≡ byteOf (e .asked)
+own c = ap (λ (t : Trailer). t .label) (sym (c .before .before .trailer-of .ensures)) ∙ c .if1 .left ∙ c .before .byte .ensures
+
+counted : (c : tie.Else1) → c .before .before .trailer-of .result .count ≡ trailerOf (entry (reading c) .args .bytes .now) .count
+counted c = ap (λ (t : Trailer). t .count) (c .before .before .trailer-of .ensures)
+
+stands : (c : tie.Else2) → Placed (c .before .before .before .trailer-of .result .distance) (entry (reading (c .before)) .args .bytes .now)
+stands c =
+    let j = judged (reading (c .before)) in
+    placed _ (c .before .before .before .trailer-of .ensures) _ (j .present) (j .right)
 
 returns : tie.Need-returns
-returns c =
-    let e = c .before .before .before .before .before .before .args in
-    refused (e .bytes .now) (e .asked) (e .list .now) (read-is (e .bytes .now) (e .asked) (length (e .list .now)) (sym (c .before .verdict2 .given .1) ∙ c .before .before .before .judge .ensures))
+unfolding readSheetAnswer readSheetLeaves
+returns c = kept Refused _ _ _ (bytes-refuse _ _ _ (sym (c .before .before .before .judge .ensures) ∙ c .before .why .given .1))
+
+trailer-of-requires : tie.Need-trailer-of-requires
+trailer-of-requires c κs = there _ _ (judged c .present) .0
 
 returns-2 : tie.Need-returns-2
-returns-2 c = refused _ _ _ (decided (c .before) ∙ simp (ne-eqb _ _ (λ h. c .if1 .taken (h ∙ sym (c .before .byte .ensures)))))
+unfolding readSheetAnswer readSheetLeaves
+returns-2 c =
+    let told = c .before .before in
+    kept Refused _ _ _
+    (label-refuses _ _ _ (cleanly (told .before)) (λ same. c .if1 .taken (ap (λ (t : Trailer). t .label) (told .trailer-of .ensures) ∙ same ∙ sym (c .before .byte .ensures))))
 
 returns-3 : tie.Need-returns-3
-returns-3 c = refused _ _ _ (decided (c .before .before) ∙ simp (eq-eqb _ _ (c .before .if1 .left ∙ c .before .before .byte .ensures), lt-leb _ _ (c .if2 .taken)))
+unfolding readSheetAnswer readSheetLeaves
+returns-3 c =
+    let e = entry (reading (c .before)) .args in
+    let short : length (e .list .now) < trailerOf (e .bytes .now) .count = omega (arith, counted (c .before), c .if2 .taken) in
+    kept Refused _ _ _ (room-refuses _ _ _ (cleanly (reading (c .before))) (own (c .before)) short)
 
-sub-at : tie.Need-sub-at
-sub-at c = stands (c .before .before) .enough
-
-sub-start : tie.Need-sub-start
-sub-start c = stands (c .before .before) .right .body
+body-in-requires : tie.Need-body-in-requires
+body-in-requires c κs = stands c
 
 take-offsets-requires : tie.Need-take-offsets-requires
 take-offsets-requires c κs =
-    let h = stands (c .before .before .before .before) in
-    list-room _ (h .trailer) (h .right .body) (h .right .distance) (c .before .before .if2 .left)
+    let room = c .before .before in
+    let right = right-facts (judged (reading (room .before)) .right) in
+    rw (c .before .body-in .ensures, length-body _ (stands room)) (omega (arith, stands room .told, counted (room .before), right .distance, room .if2 .left))
 
 returns-4 : tie.Need-returns-4
+unfolding readSheetAnswer readSheetLeaves listIn
 returns-4 c =
-    let at = c .before .before .before .before .before .before .before .before in
-    let h = stands at in
-    wrote _ _ _ (decided at ∙ simp (
-      eq-eqb _ _ (c .before .before .before .before .before .before .before .if1 .left ∙ at .byte .ensures),
-      le-leb _ _ (c .before .before .before .before .before .before .if2 .left),
-    )) (c .before .before .before .take-offsets .ensures ∙ rw (list-is _ (h .trailer) (h .right .body)))
+    let lent = c .before .before .before .before .before in
+    let room = lent .before in
+    let e = entry (reading (room .before)) .args in
+    let fits : trailerOf (e .bytes .now) .count ≤ length (e .list .now) = omega (arith, counted (room .before), room .if2 .left) in
+    done Refused _ _ _ (none-refuses _ _ _ (cleanly (reading (room .before))) (own (room .before)) fits)
+    (ap (λ (t : Trailer). Read (t .label) (t .settings) (t .count)) (room .before .before .before .trailer-of .ensures))
+    (c .before .before .before .take-offsets .ensures ∙ ap (λ (body : List ℕ). over (numbersOf 8 body) (e .list .now)) (lent .body-in .ensures))
 
 pub read-sheet-spec : {M : Type 1} → statement M
 read-sheet-spec =
     tie.close
-    (tie.spec (λ c κs. search needs) (λ c. search needs) (λ c. search needs) returns (λ c κs. search needs) returns-2 returns-3 sub-at
-    sub-start (λ c. search needs) (λ c. search needs) (λ c. search needs) take-offsets-requires (λ c. search needs) returns-4)
+    (tie.spec (λ c κs. search needs) (λ c. search needs) returns (λ c. search needs) trailer-of-requires (λ c κs. search needs) returns-2
+    returns-3 body-in-requires take-offsets-requires (λ c. search needs) returns-4)

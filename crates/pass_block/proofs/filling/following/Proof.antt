@@ -1,4 +1,4 @@
--- `taking::filling::following` meets its contract: from the block's end on there is no offset to look at.
+-- `pass_block::filling::following` meets its contract: from the block's end on there is no offset to look at.
 use Prim.Native.Nat.{ℕ, _+_}
 use mathlib.Core.Path.{_≡_}
 use mathlib.Core.List.{List}

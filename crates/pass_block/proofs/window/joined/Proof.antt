@@ -1,8 +1,8 @@
--- `taking::window::joined` meets its contract: what is written stands side by side.
+-- `pass_block::window::joined` meets its contract: what is written stands side by side.
 use borrow.Author.Needs.{needs}
 use denote.Ref.{now}
 use Prim.Native.Nat.{ℕ, zero, suc, _-_, min}
-use mathlib.Core.Path.{_≡_, refl, sym, ap, ap₂, _∙_}
+use mathlib.Core.Path.{_≡_, sym, ap, ap₂, _∙_}
 use mathlib.Core.List.{List, _++_, append-assoc}
 use native.Mathlib.Nat.{sub-zero}
 use native.Mathlib.Omega.{arith}
@@ -47,18 +47,25 @@ both-is w block first both count long is e f =
     ∙ append-assoc w (take count block) (replicate (48 - length block) 0)
     ∙ ap (λ l. w ++ (l ++ replicate (48 - length block) 0)) (first-bytes block count is)
 
+-- the window is written; how many bytes of the block there are; the entry
+abbrev counted : tie.After-put-bytes → tie.After-smaller
+counted c = c .before .before .before
+
+abbrev entry : tie.After-put-bytes → tie.Start
+entry c = counted c .before .before
+
 slice-aggregate-put-bytes-3 : tie.Need-slice-aggregate-put-bytes-3
-slice-aggregate-put-bytes-3 c = sym (part _ _ (c .before .before .before .before .before .smaller .ensures))
+slice-aggregate-put-bytes-3 c = sym (part _ _ (counted (c .before .before) .smaller .ensures))
 
 put-bytes-requires-2 : tie.Need-put-bytes-requires-2
 put-bytes-requires-2 c κs =
-    let is = c .before .before .before .before .before .before .smaller .ensures in
-    omega (arith, c .before .before .before .put-bytes .kept .1 .1 .0, part (now (c .before .before .before .before .before .before .before .before .args .block)) _ is)
+    let at = c .before .before .before in
+    omega (arith, at .put-bytes .kept .1 .1 .0, part (now (entry at .args .block)) _ (counted at .smaller .ensures))
 
 returns : tie.Need-returns
 returns c =
-    let start = c .before .before .before .before .before .before .before .before .before .before in
-    both-is (start .args .t1) (now (start .args .block)) _ _ _ (whole start) (c .before .before .before .before .before .before .before .before .smaller .ensures) (c .before .before .before .before .before .put-bytes .ensures) (c .before .put-bytes2 .ensures)
+    let at = c .before .before .before .before .before in
+    both-is (entry at .args .t1) (now (entry at .args .block)) _ _ _ (whole (entry at)) (counted at .smaller .ensures) (at .put-bytes .ensures) (c .before .put-bytes2 .ensures)
 
 pub joined-spec : {M : Type 1} → statement M
 joined-spec =

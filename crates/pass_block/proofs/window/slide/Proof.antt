@@ -1,4 +1,4 @@
--- `taking::window::slide` meets its contract: the last 48 bytes lie in the head where the block is short, else in the block.
+-- `pass_block::window::slide` meets its contract: the last 48 bytes lie in the head where the block is short, else in the block.
 use borrow.Author.Needs.{needs}
 use denote.Ref.{now}
 use Prim.Native.Nat.{ℕ, _+_, _-_, _≤_, _<_}

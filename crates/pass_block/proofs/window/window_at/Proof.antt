@@ -1,4 +1,4 @@
--- `taking::window::window_at` meets its contract: what is written fills the array.
+-- `pass_block::window::window_at` meets its contract: what is written fills the array.
 use borrow.Author.Needs.{needs}
 use denote.Ref.{now}
 use Prim.Native.Nat.{ℕ, _+_, _-_, _≤_}

@@ -1,4 +1,4 @@
--- `carry::order::all_zero` meets its contract. The loop's invariant: the bytes passed were zero, so all are where those ahead are.
+-- `pass_carry::order::all_zero` meets its contract. The loop's invariant: the bytes passed were zero, so all are where those ahead are.
 use borrow.Author.Needs.{needs}
 use borrow.Author.Tests.{eq-eqb, ne-eqb}
 use Prim.Native.Nat.{ℕ, _+_, _-_, _≤_, _<_}

@@ -22,25 +22,37 @@ Inv-loop width list at bytes₀ place₀ i₀ bytes place i =
 abbrev μ-loop : tie.MeasureT-loop
 μ-loop width list at bytes₀ place₀ i₀ bytes place i = length list - i
 
+abbrev entry : tie.In-loop Inv-loop μ-loop → tie.Start Inv-loop μ-loop
+entry c = c .before .before .before .before
+
+-- the turn in which a number was put
+abbrev put : tie.After-slice-known2 Inv-loop μ-loop → tie.In-loop Inv-loop μ-loop
+put c = c .before .before .before .before .before
+
+roomy : (c : tie.In-loop Inv-loop μ-loop)
+    → let e = entry c .args in
+    length (written (e .width) (take (c .before .loop .i) (e .list .now))) + e .width ≤ length (written (e .width) (e .list .now))
+roomy c = written-room _ _ _ (c .loop-test .taken)
+
 loop-holds : tie.Need-loop-holds Inv-loop μ-loop
 unfolding written
 loop-holds c = (search needs, omega arith, sym (overFrom-none _ _), refl)
 
 put-number-requires : tie.Need-put-number-requires Inv-loop μ-loop
-put-number-requires c κs = omega (arith, written-room (c .before .before .before .before .before .before .args .width) (c .before .before .before .loop .i) (c .before .before .before .before .before .before .args .list .now) (c .before .before .loop-test .taken))
+put-number-requires c κs = omega (arith, roomy (c .before .before))
 
 add-place : tie.Need-add-place Inv-loop μ-loop
-add-place c = omega (arith, written-room (c .before .before .before .before .before .before .before .before .before .args .width) (c .before .before .before .before .before .before .loop .i) (c .before .before .before .before .before .before .before .before .before .args .list .now) (c .before .before .before .before .before .loop-test .taken), c .before .before .before .before .before .before .before .before .before)
+add-place c = omega (arith, roomy (put c), entry (put c))
 
 loop-again : tie.Need-loop-again Inv-loop μ-loop
 loop-again c =
-    let start = c .before .before .before .before .before .before .before .before .before in
-    let turn = c .before .before .before .before .before .before .loop in
-    let inside = c .before .before .before .before .before .loop-test .taken in (
+    let start = entry (put c) in
+    let here = put c .before .loop in
+    let inside = put c .loop-test .taken in (
       search needs,
-      rw (length-written-more _ _ _ inside) (omega (arith, turn .inv .1)),
-      written-joined _ _ _ _ _ _ _ _ inside (omega arith) (turn .inv .1) (turn .inv .2) (c .before .before .put-number .ensures),
-      c .before .before .put-number .kept .1 .1 .1 .0 ∙ turn .inv .3,
+      rw (length-written-more _ _ _ inside) (omega (arith, here .inv .1)),
+      written-joined _ _ _ _ _ _ _ _ inside (omega arith) (here .inv .1) (here .inv .2) (c .before .before .put-number .ensures),
+      c .before .before .put-number .kept .1 .1 .1 .0 ∙ here .inv .3,
     )
 
 returns : tie.Need-returns Inv-loop μ-loop

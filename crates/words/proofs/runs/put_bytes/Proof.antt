@@ -17,9 +17,12 @@ copied at part dst e =
     let rest : take (length dst - at) (drop at dst) ≡ drop at dst = take-all (length dst - at) (drop at dst) (rw length-drop (le-refl _)) in
     rw (e, take-all (length part) part (le-refl _), rest, drop-of-length-le (drop at dst) {i = length dst - at} (rw length-drop (le-refl _)), append-nil)
 
+abbrev entry : tie.After-copy → tie.Start
+entry c = c .before .before .before .before
+
 returns : tie.Need-returns
 returns c =
-    let start = c .before .before .before .before .before .before in
+    let start = entry (c .before .before) in
     copied (start .args .at) (start .args .part .now) (start .args .dst .now) (c .before .before .copy .ensures .1)
 
 pub put-bytes-spec : {M : Type 1} → statement M

@@ -21,14 +21,19 @@ loop-holds : tie.Need-loop-holds Inv-loop μ-loop
 loop-holds c = (search needs, c .if1 .left, refl)
 
 returns-2 : tie.Need-returns-2 Inv-loop μ-loop
-returns-2 c = sym (c .before .before .before .before .loop .inv .2 ∙ same-refused _ _ _ (c .before .before .before .before .loop .inv .1) (c .before .before .before .loop-test .taken) (c .if2 .taken))
+returns-2 c =
+    let turn = c .before .before .before in
+    let here = turn .before in
+    sym (here .loop .inv .2 ∙ same-refused _ _ _ (here .loop .inv .1) (turn .loop-test .taken) (c .if2 .taken))
 
 loop-again : tie.Need-loop-again Inv-loop μ-loop
-loop-again c = (
-  search needs,
-  c .before .before .before .before .loop .inv .1,
-  c .before .before .before .before .loop .inv .2 ∙ same-passed _ _ _ (c .before .before .before .before .loop .inv .1) (c .before .before .before .loop-test .taken) (c .if2 .left),
-)
+loop-again c =
+    let turn = c .before .before .before in
+    let here = turn .before in (
+      search needs,
+      here .loop .inv .1,
+      here .loop .inv .2 ∙ same-passed _ _ _ (here .loop .inv .1) (turn .loop-test .taken) (c .if2 .left),
+    )
 
 returns-3 : tie.Need-returns-3 Inv-loop μ-loop
 returns-3 c = sym (c .before .loop .inv .2 ∙ same-end _ _ _ (c .before .loop .inv .1) (c .loop-test .left))

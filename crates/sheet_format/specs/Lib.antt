@@ -1,0 +1,5 @@
+pub mod Forms
+pub mod Trailer
+pub mod Sheets
+pub mod Clean
+pub mod Inner
