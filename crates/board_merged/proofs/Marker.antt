@@ -1,7 +1,7 @@
 -- The marker lemma: a mark whose neighbour before it is neither too near nor too far is a cut, wherever the cuts before it lie.
 -- Nothing of segments is used but that the neighbour is known. So every record's marker is a cut of its log.
-use Prim.Native.Nat.{ℕ, suc, _+_, _-_, _≤_, _<_}
-use mathlib.Core.Path.{_≡_, refl, sym, ap, _∙_}
+use Prim.Native.Nat.{ℕ, _+_, _-_, _≤_, _<_}
+use mathlib.Core.Path.{_≡_, refl, sym, _∙_}
 use mathlib.Core.Bool.{Bool, true}
 use mathlib.Core.List.{List, [], _∷_, _++_}
 use native.Mathlib.Omega.{arith}

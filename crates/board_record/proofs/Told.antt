@@ -1,18 +1,16 @@
 -- The record as document 01 tells it, over any marks; and its marker is a cut.
-use Prim.Native.Nat.{ℕ, zero, suc, _+_, _-_, _≤_, _<_}
-use mathlib.Core.Path.{_≡_, refl}
-use mathlib.Core.Bool.{Bool, true, false}
-use mathlib.Core.List.{List, _∷_}
+use Prim.Native.Nat.{ℕ, zero, suc, _-_, _≤_, _<_}
+use mathlib.Core.Path.{_≡_}
+use mathlib.Core.Bool.{Bool, false}
+use mathlib.Core.List.{List}
 use mathlib.Core.Logic.{_⊎_, inl, inr}
 use native.Mathlib.Omega.{arith}
-use lib.Dec.{leb}
 use borrow.Author.Tests.{leb-false, le-leb}
-use Rattle.laws.proofs.Cases.{by-lt, by-test, clash}
+use Rattle.laws.proofs.Cases.{by-lt, by-test}
 use Rattle.rule.proofs.Recorded.{up-to-told}
 use Rattle.board_bays.specs.Segments.{segments, segmentStart, segmentEnd}
-use Rattle.board_bays.specs.Bays.{Record}
 use Rattle.board_bays.proofs.Ranges.{spans}
-use Rattle.board_record.specs.Records.{isMarker, prepend, recordAfter, slowRecord, segmentRecord, marksIn}
+use Rattle.board_record.specs.Records.{isMarker, prepend, recordAfter, slowRecord, segmentRecord}
 use Rattle.board_record.specs.Told.{AfterMark, no-more, at-marker, no-marker, RecordTold, first-segment, no-marks, slow-mode}
 use Rattle.board_record.proofs.Marking.{Marks, none-left, then-mark, marks-in}
 use Rattle.board_record.proofs.After as after

@@ -1,5 +1,5 @@
 -- A segment's record in document 01's words, as a statement: proofs/Told.antt shows that it holds of `segmentRecord`, over any marks.
-use Prim.Native.Nat.{ℕ, suc, _+_, _-_, _≤_, _<_}
+use Prim.Native.Nat.{ℕ, suc, _-_, _≤_, _<_}
 use mathlib.Core.Path.{_≡_}
 use mathlib.Core.Bool.{Bool, true}
 use mathlib.Core.List.{List, [], _∷_}

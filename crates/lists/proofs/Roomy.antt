@@ -1,8 +1,8 @@
 -- The room for a list of cuts: all steps but the last are at least lo, so floor((z - b) / lo) + 1 places are enough.
-use Prim.Native.Nat.{ℕ, suc, _+_, _-_, _*_, _/_, _≤_, _<_}
+use Prim.Native.Nat.{ℕ, _+_, _-_, _*_, _/_, _≤_, _<_}
 use mathlib.Core.Path.{_≡_}
-use mathlib.Core.List.{List, [], _∷_}
-use native.Mathlib.Nat.{suc-mul, zero-mul, add-mul, one-mul, le-div-iff-mul-le}
+use mathlib.Core.List.{List}
+use native.Mathlib.Nat.{suc-mul, zero-mul, one-mul, le-div-iff-mul-le}
 use native.Mathlib.Omega.{arith}
 use lib.ListN.{length}
 use Rattle.laws.proofs.Cases.{by-lt}

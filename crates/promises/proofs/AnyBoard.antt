@@ -4,9 +4,10 @@ use mathlib.Core.Path.{_≡_, sym, _∙_}
 use mathlib.Core.Bool.{true}
 use mathlib.Core.List.{List, _∷_, _++_}
 use native.Mathlib.Omega.{arith}
-use lib.Dec.{lit<, ltb}
+use lib.Dec.{lit<, leb, ltb}
 use lib.ListN.{length}
-use borrow.Author.Tests.{ltb-true, ltb-false}
+use borrow.Author.Tests.{leb-true, ltb-true, ltb-false}
+use Rattle.laws.proofs.Cases.{both-true}
 use Rattle.terms.specs.declared.Settings.{Settings}
 use Rattle.terms.specs.declared.Refusal.the-variants.{RoomTooShort, ListFull}
 use Rattle.terms.specs.declared.Verdict.the-variants.{Fine}
@@ -24,6 +25,7 @@ use Rattle.board_bays.proofs.Verdicts.{passed, plain-bays}
 use Rattle.board_bays.proofs.Ranges.{spans, board-shape}
 use Rattle.board_walk.specs.Walk.{boardWalk}
 use Rattle.board_merged.specs.Listed.{listedOn}
+use Rattle.board_merged.specs.MarkerPieces.{MarkerPiece}
 use Rattle.board_record.specs.Records.{segmentOf}
 use Rattle.board_record.specs.Told.{RecordTold}
 use Rattle.board_record.proofs.Told as told
@@ -66,6 +68,14 @@ merge-never-full s n size width board room full =
     let sized : 0 < size = omega (arith, board-shape n size width (length board) (rows .2) .large) in
     let fitting = merged-fits s n size width board (rows .0) sized (after .1) in
     omega (arith, fitting, ltb-true room (length walk) (last .1), ltb-false room (roomFor (s .minimum) n) (after .0))
+
+-- the marker lemma: neighbour marks from minimum to maximum - minimum apart: the later one is a cut, wherever the cuts before it lie
+pub marker-lemma : (s : Settings) (log : List ℕ) {a b : ℕ} → inRange s ≡ true → MarkerPiece (mark s log) (s .minimum) (s .maximum) a b → isListed b (cutList s log) ≡ true
+unfolding mark
+marker-lemma s log {b = b} ok piece =
+    let r = ranges s ok in
+    let inside : b ≤ length log = leb-true b (length log) (both-true (both-true {a = leb 48 b} (piece .ends) .1) .0) in
+    marker.marker-cut (mark s log) (s .minimum) (s .maximum) (r .positive) (r .ordered) (length log) piece inside
 
 module _ (s : Settings) (log : List ℕ) (size i : ℕ) (ok : inRange s ≡ true) (sized : 0 < size) (there : i < segments (length log) size) where
   -- the record of a segment is as document 01 tells it: its marks, the marker, the one-pass cuts without n where only the log's end makes it one

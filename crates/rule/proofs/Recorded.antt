@@ -1,5 +1,5 @@
 -- The cuts up to an offset e of the log, as document 01 says them of a segment: they are as told, and nothing else is.
-use Prim.Native.Nat.{ℕ, suc, _+_, _≤_, _<_, min}
+use Prim.Native.Nat.{ℕ, _≤_, _<_}
 use mathlib.Core.Path.{_≡_, sym, subst, _∙_}
 use mathlib.Core.Bool.{Bool}
 use mathlib.Core.List.{List, [], _∷_}

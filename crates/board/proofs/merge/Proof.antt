@@ -79,8 +79,8 @@ returns-3 : tie.Need-returns-3
 unfolding mergeAnswer mergeLeaves mergeRows
 returns-3 c =
     let judge-bays = c .before .before .before in
-    let else1 = judge-bays .before in
-    stopped-in ListFull Refused _ _ _ _ _ (skips _ (called (else1 .before)) (past (le-ltb _ _ (else1 .if1 .left)) top))
+    let room = judge-bays .before in
+    stopped-in ListFull Refused _ _ _ _ _ (skips _ (called (room .before)) (past (le-ltb _ _ (room .if1 .left)) top))
     (sym (judge-bays .judge-bays .ensures) ∙ c .before .why2 .given .1) (plain-bays _ _ _ _ _ _ _)
 
 walk-board-requires : tie.Need-walk-board-requires

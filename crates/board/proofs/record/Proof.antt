@@ -41,9 +41,9 @@ fill-bay-requires c κs =
 returns-2 : tie.Need-returns-2
 unfolding recordAnswer recordLeaves recordRows filledAnswer
 returns-2 c =
-    let enum-told = c .before .before .before .before in
+    let judged = c .before .before .before .before in
     let filled = c .before .before .fill-bay .ensures in
-    wrote RecordTooLong Refused _ _ _ (skips _ (called enum-told) top) (filled .0) (filled .1)
+    wrote RecordTooLong Refused _ _ _ (skips _ (called judged) top) (filled .0) (filled .1)
 
 pub record-spec : {M : Type 1} → statement M
 record-spec =

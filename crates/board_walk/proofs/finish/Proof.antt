@@ -25,15 +25,15 @@ returns c =
 
 add-t12 : tie.Need-add-t12
 add-t12 c =
-    let else1 = after-put c .before .before in
-    omega (arith, after-force-cuts else1 .force-cuts .ensures .behind, else1 .if1 .left)
+    let open-end = after-put c .before .before in
+    omega (arith, after-force-cuts open-end .force-cuts .ensures .behind, open-end .if1 .left)
 
 returns-2 : tie.Need-returns-2
 returns-2 c =
     let put = after-put c in
-    let else1 = put .before .before in
-    let force-cuts = after-force-cuts else1 in
-    end-open _ _ _ _ _ _ (entry force-cuts .pre .0) (force-cuts .force-cuts .ensures) (else1 .if1 .left) (put .put .ensures)
+    let open-end = put .before .before in
+    let force-cuts = after-force-cuts open-end in
+    end-open _ _ _ _ _ _ (entry force-cuts .pre .0) (force-cuts .force-cuts .ensures) (open-end .if1 .left) (put .put .ensures)
 
 pub finish-spec : {M : Type 1} → statement M
 finish-spec =

@@ -22,8 +22,8 @@ same-length c = puts-long (c .before .before .take-offsets .ensures)
 
 returns : tie.Need-returns
 returns c =
-    let then1 = c .before .before .before .before in
-    puts-are (then1 .before .offsets-in .ensures ∙ sym (first-bay _ _ _ _ _ (then1 .if1 .taken))) (c .before .before .take-offsets .ensures)
+    let first = c .before .before .before .before in
+    puts-are (first .before .offsets-in .ensures ∙ sym (first-bay _ _ _ _ _ (first .if1 .taken))) (c .before .before .take-offsets .ensures)
 
 read-as-marks-requires : tie.Need-read-as-marks-requires
 read-as-marks-requires c κs =
@@ -37,8 +37,8 @@ same-length-2 c = puts-long (c .before .before .read-as-marks .ensures)
 returns-2 : tie.Need-returns-2
 unfolding recordIn
 returns-2 c =
-    let else1 = c .before .before .before .before .before in
-    puts-are (ap (readAsMarks _ _ _ _) (else1 .before .offsets-in .ensures) ∙ sym (later-bay _ _ _ _ _ (else1 .if1 .left)))
+    let later = c .before .before .before .before .before in
+    puts-are (ap (readAsMarks _ _ _ _) (later .before .offsets-in .ensures) ∙ sym (later-bay _ _ _ _ _ (later .if1 .left)))
     (c .before .before .read-as-marks .ensures)
 
 pub walk-bay-spec : {M : Type 1} → statement M

@@ -30,8 +30,8 @@ after-next-mark c = c .before .before .before .before
 abbrev after-put : tie.After-is-marker Inv-loop μ-loop → tie.After-put Inv-loop μ-loop
 after-put c = c .before .before .before
 
-abbrev in-then3 : tie.After-slice-known3 Inv-loop μ-loop → tie.Then3 Inv-loop μ-loop
-in-then3 c = c .before .before .before .before
+abbrev marker-found : tie.After-slice-known3 Inv-loop μ-loop → tie.Then3 Inv-loop μ-loop
+marker-found c = c .before .before .before .before
 
 loop-holds : tie.Need-loop-holds Inv-loop μ-loop
 loop-holds c =
@@ -82,23 +82,16 @@ record-cuts-requires c κs =
       ),
     )
 
-same-length-2 : tie.Need-same-length-2 Inv-loop μ-loop
-same-length-2 c =
-    let then3 = in-then3 c in
-    let put = after-put (then3 .before) in
-    let next-mark = after-next-mark put in
-    records-long
-    (slow-marker (at-loop next-mark .loop .inv) _ (next-mark .before .if1 .taken) (next-mark .next-mark .ensures)
-    (not-false _ (put .before .before .if2 .left)) (sym (then3 .before .is-marker .ensures) ∙ then3 .if3 .taken) (put .put .ensures)
-    (c .before .before .record-cuts .ensures))
-
 returns-2 : tie.Need-returns-2 Inv-loop μ-loop
 returns-2 c =
-    let then3 = in-then3 c in
-    let put = after-put (then3 .before) in
+    let marker = marker-found c in
+    let put = after-put (marker .before) in
     let next-mark = after-next-mark put in
     slow-marker (at-loop next-mark .loop .inv) _ (next-mark .before .if1 .taken) (next-mark .next-mark .ensures) (not-false _ (put .before .before .if2 .left))
-    (sym (then3 .before .is-marker .ensures) ∙ then3 .if3 .taken) (put .put .ensures) (c .before .before .record-cuts .ensures)
+    (sym (marker .before .is-marker .ensures) ∙ marker .if3 .taken) (put .put .ensures) (c .before .before .record-cuts .ensures)
+
+same-length-2 : tie.Need-same-length-2 Inv-loop μ-loop
+same-length-2 c = records-long (returns-2 c)
 
 loop-less : tie.Need-loop-less Inv-loop μ-loop
 loop-less c =

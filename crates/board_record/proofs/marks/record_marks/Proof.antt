@@ -39,21 +39,15 @@ record-after-requires c κs =
     let start = entry seek in
     (start .pre .0, ((seek .seek .ensures .begun, seek .seek .ensures .inside, seek .seek .ensures .here, start .pre .1 .0 .1), start .pre .1 .1))
 
-same-length : tie.Need-same-length
-same-length c =
-    let put = after-put c in
-    let seek = after-seek put in
-    let start = entry seek in
-    records-long
-    (first-found _ _ _ (start .pre .1 .0 .0) _ (seek .seek .ensures) (start .args .list .now) (not-false _ (put .before .before .if1 .left))
-    (put .put .ensures) (c .before .before .record-after .ensures))
-
 returns-2 : tie.Need-returns-2
 returns-2 c =
     let put = after-put c in
     let seek = after-seek put in
     first-found _ _ _ (entry seek .pre .1 .0 .0) _ (seek .seek .ensures) _ (not-false _ (put .before .before .if1 .left)) (put .put .ensures)
     (c .before .before .record-after .ensures)
+
+same-length : tie.Need-same-length
+same-length c = records-long (returns-2 c)
 
 pub record-marks-spec : {M : Type 1} → statement M
 record-marks-spec =

@@ -34,8 +34,8 @@ in-loop c = c .before .before .before
 abbrev after-read-offset : tie.After-struct-known Inv-loop μ-loop → tie.After-read-offset Inv-loop μ-loop
 after-read-offset c = c .before .before .before
 
-abbrev in-then2 : tie.After-slice-known3 Inv-loop μ-loop → tie.Then2 Inv-loop μ-loop
-in-then2 c = c .before .before .before .before .before
+abbrev switched : tie.After-slice-known3 Inv-loop μ-loop → tie.Then2 Inv-loop μ-loop
+switched c = c .before .before .before .before .before
 
 loop-holds : tie.Need-loop-holds Inv-loop μ-loop
 loop-holds c = (omega arith, (c .before .before .pre .1, begin _ (c .before .before .args .made) _ (c .before .before .pre .0)))
@@ -64,28 +64,19 @@ take-offsets-requires c κs =
           (here .loop .inv .1 .0)),
     )
 
-same-length : tie.Need-same-length Inv-loop μ-loop
-same-length c =
-    let then2 = in-then2 c in
-    let read-offset = after-read-offset (then2 .before .before) in
-    let turn = in-loop read-offset in
-    let here = turn .before in
-    let start = entry here in
-    puts-long
-    (all-made
-    (marks-switch _ _ _ _ _ (turn .loop-test .taken) (start .pre .2) (read-offset .read-offset .ensures) (here .loop .inv .1 .1) (then2 .before .if1 .taken)
-    (then2 .if2 .taken)) (rest-from (start .args .offsets .now) (here .loop .k + 1)) (c .before .before .take-offsets .ensures))
-
 returns : tie.Need-returns Inv-loop μ-loop
 returns c =
-    let then2 = in-then2 c in
-    let read-offset = after-read-offset (then2 .before .before) in
+    let switch = switched c in
+    let read-offset = after-read-offset (switch .before .before) in
     let turn = in-loop read-offset in
     let here = turn .before in
     let start = entry here in
     all-made
-    (marks-switch _ _ _ _ _ (turn .loop-test .taken) (start .pre .2) (read-offset .read-offset .ensures) (here .loop .inv .1 .1) (then2 .before .if1 .taken)
-    (then2 .if2 .taken)) (rest-from (start .args .offsets .now) (here .loop .k + 1)) (c .before .before .take-offsets .ensures)
+    (marks-switch _ _ _ _ _ (turn .loop-test .taken) (start .pre .2) (read-offset .read-offset .ensures) (here .loop .inv .1 .1) (switch .before .if1 .taken)
+    (switch .if2 .taken)) (rest-from (start .args .offsets .now) (here .loop .k + 1)) (c .before .before .take-offsets .ensures)
+
+same-length : tie.Need-same-length Inv-loop μ-loop
+same-length c = puts-long (returns c)
 
 loop-less : tie.Need-loop-less Inv-loop μ-loop
 loop-less c = omega (arith, in-loop (after-read-offset (c .before .before)) .loop-test .taken)
