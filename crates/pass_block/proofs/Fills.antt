@@ -79,7 +79,8 @@ module _ (c : Carry) (block : List ℕ) (ok : Usable c) (some : 0 < length block
       (λ k. let up : next < nextCut (c .settings) block next = step .onward (ok .ranged .positive) k in (omega arith, omega (arith, step .inside), λ z. omega arith))
       (λ k. by-lt r (length block) (λ j. absurd (omega (arith, step .at-least (omega arith)))) (λ j. (omega arith, omega (arith, step .inside), λ z. absurd (omega arith))))
 
-  module _ {list₀ list : List ℕ} {count cut next : ℕ} (f : Filling c block list₀ list count cut next) (signature : ℕ) (is-signature : signature ≡ signatureOf (slidBy (c .window) block)) where
+  module _ {list₀ list : List ℕ} {count cut next : ℕ} (f : Filling c block list₀ list count cut next) (signature : ℕ)
+      (is-signature : signature ≡ signatureOf (slidBy (c .window) block)) where
     abbrev piece : ℕ
     piece = c .taken + next - cut
 

@@ -10,14 +10,11 @@ use borrow.Author.Tests.{ltb-false}
 use Rattle.laws.proofs.Cases.{by-test}
 use Rattle.terms.specs.declared.Settings.{Settings}
 use Rattle.terms.specs.declared.Refusal.the-variants.{ListFull}
-use Rattle.terms.specs.declared.Verdict.{Verdict}
 use Rattle.terms.specs.declared.Verdict.the-variants.{Fine}
-use Rattle.terms.specs.Refusals.{numberOf}
 use Rattle.terms.specs.Settings.{inRange}
 use Rattle.terms.specs.Answers.{longest}
-use Rattle.terms.specs.Rows.{verdict, ruled, firstRow}
-use Rattle.terms.proofs.Numbers.{some-number}
-use Rattle.terms.proofs.Verdicts.{by-verdict, through, clear, Leaves, refused-leaves}
+use Rattle.terms.specs.Rows.{verdict, firstRow, Leaves}
+use Rattle.terms.proofs.Verdicts.{through, clear, refused-leaves, none-holds}
 use Rattle.terms.proofs.Ranges.{ranges}
 use Rattle.lists.specs.WellFormed.{wellFormed, lengthOf}
 use Rattle.lists.proofs.Reaching.{Reaches}
@@ -38,9 +35,6 @@ use Rattle.amending.proofs.Fitting.{edit-told, edit-fits}
 use Rattle.amending.proofs.Told.{front-told, recut-told}
 use Rattle.amending.proofs.Chained.{well-formed-again, new-length, meeting-there}
 use Rattle.promises.specs.Amendments.{Counts, Counted, AsAfresh}
-
-none-holds : (v : Verdict) → ruled v numberOf 0 ≡ 0 → v ≡ Fine
-none-holds v success = by-verdict v (λ fine. fine) (λ why wrong. let none : numberOf why ≡ 0 = rw wrong at success in absurd (omega (arith, some-number why)))
 
 -- an edit that row 11 lets pass: s is not past the old length n, d not past what follows s, and the new length is n - d + e
 pub edit-told-exactly : (n : ℕ) (edit : Edit) (bytes : ℕ) → editFits n edit bytes ≡ true ↔ ((edit .at + edit .removed ≤ n) × (n + edit .added ≡ bytes + edit .removed))

@@ -14,8 +14,8 @@ use Rattle.terms.specs.declared.Settings.{Settings}
 use Rattle.terms.specs.declared.Answer.the-variants.{Refused}
 use Rattle.terms.specs.declared.Refusal.the-variants.{RecordTooLong, ListFull}
 use Rattle.terms.specs.Answers.{answerNumber, answerCount}
-use Rattle.terms.specs.Rows.{verdict, ruled, firstRow}
-use Rattle.terms.proofs.Verdicts.{through, last-holds, Leaves, refused-leaves}
+use Rattle.terms.specs.Rows.{verdict, ruled, firstRow, Leaves}
+use Rattle.terms.proofs.Verdicts.{through, last-holds, refused-leaves}
 use Rattle.lists.specs.Written.{writtenList}
 use Rattle.board_walk.specs.Walk.{boardWalk}
 use Rattle.board_bays.specs.Bays.{bayOf}

@@ -1,10 +1,7 @@
 -- The two calls of the sheet: their numbers by their tables of rows, what a refusal leaves, and the values beside each answer.
 use Prim.Native.Nat.{ℕ, _+_, _-_, _*_}
-use mathlib.Core.Path.{_≡_, refl, sym, _∙_}
-use mathlib.Core.Bool.{not, _&&_}
-use mathlib.Core.List.{List, [], _∷_}
-use native.Mathlib.Omega.{arith}
-use lib.Dec.{leb, ltb, eqb}
+use mathlib.Core.Path.{_≡_, sym, _∙_}
+use mathlib.Core.List.{List}
 use lib.ListN.{length, take, drop}
 use lib.Seq.{drop-append-seam}
 use Rattle.laws.specs.Over.{over}
@@ -12,20 +9,12 @@ use Rattle.laws.proofs.Writing.{take-over}
 use Rattle.terms.specs.declared.Settings.{Settings}
 use Rattle.terms.specs.declared.Label.{Label}
 use Rattle.terms.specs.declared.Answer.the-variants as answer
-use Rattle.terms.specs.declared.Verdict.the-variants.{Fine}
-use Rattle.terms.specs.Refusals.{numberOf}
-use Rattle.terms.specs.Labels.{byteOf}
-use Rattle.terms.specs.Settings.{inRange}
 use Rattle.terms.specs.Answers.{answerNumber, answerCount}
-use Rattle.terms.specs.Rows.{Row, verdict, firstRow}
-use Rattle.terms.proofs.Numbers.{some-number}
-use Rattle.terms.proofs.Verdicts.{by-verdict, through, refused-keeps}
-use Rattle.lists.specs.WellFormed.{wellFormed}
-use Rattle.words.specs.Runs.{same}
+use Rattle.terms.specs.Rows.{verdict, firstRow}
+use Rattle.terms.proofs.Verdicts.{by-verdict, through, refused-keeps, none-holds}
 use Rattle.sheet_format.specs.Forms.{cutsForm}
-use Rattle.sheet_format.specs.Trailer.{trailerRight}
-use Rattle.sheet_format.specs.Sheets.{checked, sheetOf}
-use Rattle.sheet_format.specs.Clean.{trailerBytes, trailerOf, sheetIn, listIn, hasTrailer, hasList, cleanRows}
+use Rattle.sheet_format.specs.Sheets.{sheetOf}
+use Rattle.sheet_format.specs.Clean.{trailerOf, listIn}
 use Rattle.sheet_format.proofs.Forms.{cuts-formed}
 use Rattle.sheet_format.proofs.Cleanly.{clean, length-list}
 use Rattle.sheet_format.proofs.RoundTrip.{length-sheet}
@@ -36,12 +25,6 @@ use Rattle.sheet.specs.Answers.{sheetNumber, sheetLabel, sheetSettings, sheetCo
 use Rattle.sheet.proofs.Writing.{writable}
 use Rattle.sheet.proofs.Reading.{passed}
 use Rattle.promises.specs.Sheets.{NothingRead, ReadOut, WrittenOut}
-
--- the number 0 says that no row holds
-none-holds : (rows : List Row) → firstRow rows ≡ 0 → verdict rows ≡ Fine
-none-holds rows e =
-    by-verdict (verdict rows) (λ v. v)
-    (λ why v. let none : numberOf why ≡ 0 = rw v at e in absurd (omega (arith, some-number why)))
 
 -- what stands past the entries that are written over others
 past-over : (l b : List ℕ) (n : ℕ) → length l ≡ n → (take n (over l b) ≡ l) × (drop n (over l b) ≡ drop n b)
@@ -69,7 +52,7 @@ module _ (settings : Settings) (list : List ℕ) where
       → WrittenOut settings label list (writeSheetAnswer settings list (length bytes)) bytes (writeSheetLeaves settings label list bytes)
   unfolding answerCount writeSheetAnswer writeSheetLeaves
   write-sheet-values label bytes e =
-      let v = none-holds (writeSheetRows settings list (length bytes)) (sym (write-sheet-rows (length bytes)) ∙ e) in
+      let v = none-holds (verdict (writeSheetRows settings list (length bytes))) (sym (write-sheet-rows (length bytes)) ∙ e) in
       let w = writable settings list (length bytes) v in
       let p = past-over (sheetOf cutsForm settings label list) bytes (8 * length list + 32) (length-sheet cutsForm cuts-formed settings label list (w .in-range)) in
       record { count = rw v; sheet = rw v (p .0); others-stay = rw v (p .1) }
@@ -94,7 +77,7 @@ module _ (bytes : List ℕ) (asked : Label) where
       → ReadOut bytes asked (readSheetAnswer bytes asked (length list)) list (readSheetLeaves bytes asked list)
   unfolding sheetLabel sheetSettings sheetCount readSheetAnswer readSheetLeaves
   read-sheet-values list e =
-      let v = none-holds (readSheetRows bytes asked (length list)) (sym (read-sheet-rows (length list)) ∙ e) in
+      let v = none-holds (verdict (readSheetRows bytes asked (length list))) (sym (read-sheet-rows (length list)) ∙ e) in
       let r = passed bytes asked (length list) v in
       let p = past-over (listIn bytes) list (trailerOf bytes .count) (length-list cutsForm bytes (clean cutsForm bytes (r .reads))) in
       record { label = rw v (r .labelled); settings = rw v; count = rw v; entries = rw v (p .0); others-stay = rw v (p .1) }

@@ -18,9 +18,9 @@ use Rattle.terms.specs.declared.Verdict.{Verdict}
 use Rattle.terms.specs.declared.Verdict.the-variants.{Fine, Wrong}
 use Rattle.terms.specs.Settings.{inRange}
 use Rattle.terms.specs.Answers.{answerNumber, answerCount, longest}
-use Rattle.terms.specs.Rows.{verdict, ruled, firstRow}
+use Rattle.terms.specs.Rows.{verdict, ruled, firstRow, Leaves}
 use Rattle.terms.proofs.Ranges.{ranges}
-use Rattle.terms.proofs.Verdicts.{through, clear, both-clear, Leaves, refused-leaves, refused-keeps}
+use Rattle.terms.proofs.Verdicts.{through, clear, both-clear, refused-leaves, refused-keeps}
 use Rattle.rule.specs.Rule.{cutsUpTo}
 use Rattle.rule.proofs.Hops.{listed, last-is}
 use Rattle.signature.specs.Signatures.{signatureOf}

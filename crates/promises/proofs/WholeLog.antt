@@ -15,9 +15,9 @@ use Rattle.terms.specs.declared.Answer.the-variants.{Wrote, Refused}
 use Rattle.terms.specs.declared.Refusal.the-variants.{ListFull}
 use Rattle.terms.specs.Settings.{inRange}
 use Rattle.terms.specs.Answers.{answerNumber, longest}
-use Rattle.terms.specs.Rows.{verdict, firstRow}
+use Rattle.terms.specs.Rows.{verdict, firstRow, Leaves}
 use Rattle.terms.proofs.Ranges.{ranges}
-use Rattle.terms.proofs.Verdicts.{Leaves, through, clear, refused-leaves}
+use Rattle.terms.proofs.Verdicts.{through, clear, refused-leaves}
 use Rattle.lists.specs.Written.{writtenList}
 use Rattle.lists.specs.WellFormed.{wellFormed, lengthOf}
 use Rattle.lists.proofs.Reaching.{Reaches, there, step, reaches, fits, reaches-long}

@@ -1,5 +1,5 @@
 -- What the calls on a board leave and answer: document 01, "Segments and the board" and "Numbers answered".
-use Prim.Native.Nat.{ℕ, _+_, _*_, _≤_, _<_}
+use Prim.Native.Nat.{ℕ, _+_, _≤_}
 use mathlib.Core.Path.{_≡_}
 use mathlib.Core.Bool.{true}
 use mathlib.Core.List.{List}

@@ -1,11 +1,11 @@
 -- The cuts of a log are document 01's rule, and no other list is.
-use Prim.Native.Nat.{ℕ, _+_, _-_, _≤_, _<_}
+use Prim.Native.Nat.{ℕ, _-_, _≤_, _<_}
 use mathlib.Core.Path.{_≡_, subst, sym}
 use mathlib.Core.Bool.{Bool}
-use mathlib.Core.List.{List, [], _∷_}
+use mathlib.Core.List.{List, _∷_}
 use mathlib.Core.Logic.{_↔_}
 use native.Mathlib.Omega.{arith}
-use Rattle.rule.specs.Rule.{next, cuts, cutsFrom, NextCut, OnePass, at-end, piece}
+use Rattle.rule.specs.Rule.{next, cuts, cutsFrom, OnePass, at-end, piece}
 use Rattle.rule.proofs.Chain.{Run, stay, onward, whole, run-all}
 use Rattle.rule.proofs.Next.{next-is, next-only, rising}
 

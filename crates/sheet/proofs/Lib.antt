@@ -1,5 +1,3 @@
--- what a call answers and leaves that writes only where no row holds
-pub mod Keeping
 -- what the rows of writing say where none holds
 pub mod Writing
 -- which rows of reading decide

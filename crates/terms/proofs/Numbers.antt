@@ -1,5 +1,5 @@
 -- What the numbers of the table say: none is 0, which stands beside a success.
-use Prim.Native.Nat.{ℕ, _<_}
+use Prim.Native.Nat.{_<_}
 use lib.Dec.{lit<}
 use Rattle.terms.specs.declared.Refusal.{Refusal}
 use Rattle.terms.specs.declared.Refusal.the-variants.{SettingsOutOfRange, LogTooLong, CarryNotInOrder, CarryClosed, RoomTooShort, RecordTooLong, NoSuchSegment, BayNotDone}

@@ -1,5 +1,5 @@
 -- What a table of rows says of a call's number, its answer and what it leaves, for every call at once.
-use Prim.Native.Nat.{ℕ, _<_}
+use Prim.Native.Nat.{_<_}
 use mathlib.Core.Path.{_≡_, refl, sym, ap, _∙_}
 use mathlib.Core.Bool.{Bool, true, false, not}
 use mathlib.Core.List.{List, [], _∷_, _++_}
@@ -11,8 +11,8 @@ use Rattle.terms.specs.declared.Refusal.{Refusal}
 use Rattle.terms.specs.declared.Verdict.{Verdict}
 use Rattle.terms.specs.declared.Verdict.the-variants.{Fine, Wrong}
 use Rattle.terms.specs.Refusals.{numberOf}
-use Rattle.terms.specs.Answers.{unless}
-use Rattle.terms.specs.Rows.{Row, row, first, verdict, ruled, firstRow, leaves, lacks}
+use Rattle.terms.proofs.Numbers.{some-number}
+use Rattle.terms.specs.Rows.{Row, row, first, verdict, ruled, firstRow, leaves, lacks, Leaves}
 
 pub by-verdict {ℓ} : {C : Type ℓ} (v : Verdict) → (v ≡ Fine → C) → ((why : Refusal) → v ≡ Wrong why → C) → C
 by-verdict Fine f g = f refl
@@ -40,6 +40,14 @@ pub reached : {rows later : List Row} → Reaches rows later → verdict rows �
 unfolding verdict
 reached top = refl
 reached (past e r) = rw e (reached r)
+
+-- a call that writes only where no row holds, and has no exception: where a row refuses, and where none does
+module _ {A M : Type 0} (refused : Refusal → A) (fine : A) (before after : M) {v : Verdict} where
+  pub kept : {why : Refusal} → v ≡ Wrong why → (refused why ≡ ruled v refused fine) × (before ≡ ruled v (λ _. before) after)
+  kept e = (rw e, rw e)
+
+  pub done : {r : A} {left : M} → v ≡ Fine → r ≡ fine → left ≡ after → (r ≡ ruled v refused fine) × (left ≡ ruled v (λ _. before) after)
+  done e p q = (rw e p, rw e q)
 
 -- two tables, one after the other
 pub joined : (rows later : List Row) → verdict (rows ++ later) ≡ ruled (verdict rows) Wrong (verdict later)
@@ -128,10 +136,6 @@ left-by but rows holds before after l =
     (λ why v. rw (joined rows (row but holds ∷ []), v, lacking but rows l v))
 
 -- a refusal leaves what was lent, but for one number
-pub record Leaves {ℓ} {A : Type ℓ} (number exception : ℕ) (before kept after : A) : Type ℓ where
-  pub untouched : (number ≡ 0 → ⊥) → (number ≡ exception → ⊥) → after ≡ before
-  pub excepted : number ≡ exception → after ≡ kept
-
 pub refused-leaves {ℓ} : {A : Type ℓ} (v : Verdict) (but : Refusal) {before after : A}
     → Leaves (ruled v numberOf 0) (numberOf but) before after (leaves v but before after)
 refused-leaves Fine but = record { untouched = λ refusal other. absurd (refusal refl); excepted = λ same. refl }
@@ -144,7 +148,11 @@ pub refused-keeps {ℓ} : {A : Type ℓ} (v : Verdict) (before after : A) → (r
 refused-keeps Fine before after refusal = absurd (refusal refl)
 refused-keeps (Wrong why) before after refusal = refl
 
--- a success: no row holds
+-- a success: no row holds, by the number answered or by the answer
+pub none-holds : (v : Verdict) → ruled v numberOf 0 ≡ 0 → v ≡ Fine
+none-holds Fine success = refl
+none-holds (Wrong why) success = absurd (omega (arith, some-number why))
+
 pub succeeded : {A : Type 0} (v : Verdict) (refused : Refusal → A) (fine : A) {answer : A} → ruled v refused fine ≡ answer
     → ((why : Refusal) → refused why ≡ answer → ⊥) → (v ≡ Fine) × (fine ≡ answer)
 succeeded Fine refused fine e never = (refl, e)

@@ -1,5 +1,6 @@
 -- A call's rows of the table of numbers, in its order: the first that holds refuses. Document 01, "Numbers answered".
 use Prim.Native.Nat.{ℕ}
+use mathlib.Core.Path.{_≡_}
 use mathlib.Core.Bool.{Bool, true, false}
 use mathlib.Core.List.{List, [], _∷_}
 use lib.Dec.{eqb}
@@ -42,3 +43,8 @@ leaves v but before after = ruled v (λ why. unless (eqb (numberOf why) (numberO
 unfoldable pub lacks : Refusal → List Row → Bool
 lacks but [] = true
 lacks but (r ∷ rows) = unless (eqb (numberOf (r .why)) (numberOf but)) (lacks but rows) false
+
+-- lent memory before and after a call that answered a number: a refusal leaves it as it was, but that one number keeps something
+pub record Leaves {ℓ} {A : Type ℓ} (number exception : ℕ) (before kept after : A) : Type ℓ where
+  pub untouched : (number ≡ 0 → ⊥) → (number ≡ exception → ⊥) → after ≡ before
+  pub excepted : number ≡ exception → after ≡ kept

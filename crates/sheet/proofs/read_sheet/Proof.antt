@@ -14,7 +14,7 @@ use Rattle.sheet_format.specs.Forms.{cutsForm}
 use Rattle.sheet_format.specs.Clean.{trailerOf, listIn, ReadsCleanly}
 use Rattle.sheet_format.specs.Inner.{Placed}
 use Rattle.sheet.specs.Read.{readSheetAnswer, readSheetLeaves}
-use Rattle.sheet.proofs.Keeping.{kept, done}
+use Rattle.terms.proofs.Verdicts.{kept, done}
 use Rattle.sheet_format.proofs.Lent.{there, right-facts, length-body}
 use Rattle.sheet_format.proofs.Cleanly.{Clean, clean, placed}
 use Rattle.sheet.proofs.Reading.{bytes-refuse, label-refuses, room-refuses, none-refuses}

@@ -8,7 +8,7 @@ use Rattle.terms.specs.declared.Verdict.the-variants.{Fine}
 use Rattle.terms.specs.Rows.{verdict}
 use Rattle.terms.proofs.Ranges.{ranges}
 use Rattle.sheet.specs.Write.{writeSheetRows, writeSheetAnswer, writeSheetLeaves}
-use Rattle.sheet.proofs.Keeping.{kept, done}
+use Rattle.terms.proofs.Verdicts.{kept, done}
 use Rattle.sheet.proofs.Writing.{Writable, writable}
 use Rattle.sheet.proofs.write_sheet.Statement.{statement}
 use Rattle.sheet.proofs.write_sheet.Tie as tie

@@ -1,8 +1,5 @@
 -- `signature::tables` meets its contract: one table beside the other.
 use borrow.Author.Needs.{needs}
-use mathlib.Core.Path.{ap₂}
-use mathlib.Core.List.{List, [], _∷_}
-use Prim.Native.Nat.{ℕ}
 use Rattle.signature.specs.Signatures.{signatureTables}
 use Rattle.signature.proofs.tables.Statement.{statement}
 use Rattle.signature.proofs.tables.Tie as tie
