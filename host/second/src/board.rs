@@ -14,8 +14,8 @@ pub struct Record {
 }
 
 /// Whether S and R are in range and the board has a bay for each segment of a log of n bytes.
-fn board_fits(n: u64, size: u64, room: u64, board: &[u64]) -> bool {
-    SIZES.contains(&size) && room >= 2 && board.len() as u128 >= u128::from(n.div_ceil(size)) * u128::from(room)
+fn board_fits(n: u64, size: u64, width: u64, board: &[u64]) -> bool {
+    SIZES.contains(&size) && width >= 2 && board.len() as u128 >= u128::from(n.div_ceil(size)) * u128::from(width)
 }
 
 /// Whether offset p is in the segment.
@@ -54,21 +54,21 @@ pub fn record(settings: &Settings, n: u64, marks: &[u64], size: u64, index: u64)
 
 /// A record put into its bay of at least 2 entries: (number, entries written, bay). Where it is longer than the bay: 6.
 pub fn fill_bay(record: &Record, bay: &[u64]) -> (u32, u64, Vec<u64>) {
-    let room = bay.len() - 2;
+    let places = bay.len() - 2;
     let count = record.offsets.len();
-    if count > room {
-        return (6, 0, [&[0, 0], &record.offsets[..room]].concat());
+    if count > places {
+        return (6, 0, [&[0, 0], &record.offsets[..places]].concat());
     }
     let entries = [&[1 + count as u64, record.marker], &record.offsets[..]].concat();
     (0, entries.len() as u64, written_over(bay, &entries))
 }
 
-/// One segment: (number, 2 plus its offsets, board). R is called `room`.
+/// One segment: (number, 2 plus its offsets, board). R is called `width`.
 pub fn segment(
     settings: &Settings,
     log: &[u8],
     size: u64,
-    room: u64,
+    width: u64,
     index: u64,
     board: &[u64],
 ) -> (u32, u64, Vec<u64>) {
@@ -79,12 +79,12 @@ pub fn segment(
     if n > LONGEST {
         return (2, 0, board.to_vec());
     }
-    if !board_fits(n, size, room, board) || index >= n.div_ceil(size) {
+    if !board_fits(n, size, width, board) || index >= n.div_ceil(size) {
         return (7, 0, board.to_vec());
     }
     let record = record(settings, n, &marks(settings, log), size, index);
-    let (before, rest) = board.split_at((index * room) as usize);
-    let (bay, behind) = rest.split_at(room as usize);
+    let (before, rest) = board.split_at((index * width) as usize);
+    let (bay, behind) = rest.split_at(width as usize);
     let (number, written, bay) = fill_bay(&record, bay);
     (number, written, [before, &bay, behind].concat())
 }
@@ -132,7 +132,7 @@ fn walk(settings: &Settings, n: u64, size: u64, bays: &[&[u64]]) -> Vec<u64> {
 }
 
 /// Merging a board of a log of n bytes: (number, entries written, list).
-pub fn merge(settings: &Settings, n: u64, size: u64, room: u64, board: &[u64], list: &[u64]) -> (u32, u64, Vec<u64>) {
+pub fn merge(settings: &Settings, n: u64, size: u64, width: u64, board: &[u64], list: &[u64]) -> (u32, u64, Vec<u64>) {
     let refused = |number| (number, 0, list.to_vec());
     if !settings.in_range() {
         return refused(1);
@@ -140,13 +140,13 @@ pub fn merge(settings: &Settings, n: u64, size: u64, room: u64, board: &[u64], l
     if n > LONGEST {
         return refused(2);
     }
-    if !board_fits(n, size, room, board) {
+    if !board_fits(n, size, width, board) {
         return refused(7);
     }
     if (list.len() as u64) < settings.room(n) {
         return refused(5);
     }
-    let bays: Vec<&[u64]> = board.chunks(room as usize).take(n.div_ceil(size) as usize).collect();
+    let bays: Vec<&[u64]> = board.chunks(width as usize).take(n.div_ceil(size) as usize).collect();
     for (index, bay) in bays.iter().enumerate() {
         if bay[0] == 0 {
             return refused(8);

@@ -17,8 +17,7 @@ fn settings() {
         let carry = Carry { settings: fine, taken: 0, since: 0, window: [0; 48], signature: 0, closed: 0 };
         assert_eq!(fresh(&fine), (0, carry));
     }
-    let zero =
-        Carry { settings: Settings::default(), taken: 0, since: 0, window: [0; 48], signature: 0, closed: 0 };
+    let zero = Carry { settings: Settings::default(), taken: 0, since: 0, window: [0; 48], signature: 0, closed: 0 };
     for bad in [
         BAD,
         with(0, 1, 48, 200),

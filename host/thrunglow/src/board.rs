@@ -62,19 +62,19 @@ pub fn cut_parallel(settings: Settings, log: &[u8], threads: NonZeroUsize) -> Re
     Error::unless_fine(raw::fresh(settings).number)?;
     let size = segment_size(log.len(), threads);
     let segments = log.len().div_ceil(size);
-    let mut room = usual_room(&settings, size);
-    let mut board = vec![0; segments * room];
+    let mut width = usual_width(&settings, size);
+    let mut board = vec![0; segments * width];
     loop {
-        match record_open_bays(settings, log, size, room, &mut board, threads) {
+        match record_open_bays(settings, log, size, width, &mut board, threads) {
             Err(Error::RecordTooLong) => {
-                let longer = (4 * room).min(size + 2);
-                board = with_longer_bays(&board, room, longer);
-                room = longer;
+                let longer = (4 * width).min(size + 2);
+                board = with_longer_bays(&board, width, longer);
+                width = longer;
             }
             other => break other?,
         }
     }
-    merge(settings, log.len() as u64, size as u64, room as u64, &board)
+    merge(settings, log.len() as u64, size as u64, width as u64, &board)
 }
 
 /// Segments that are many enough for the threads to end together, and long enough that their slow starts do not show.
@@ -83,7 +83,7 @@ fn segment_size(bytes: usize, threads: NonZeroUsize) -> usize {
 }
 
 /// Room for twice the marks to be expected and for the most cuts; a segment has no more offsets than bytes.
-fn usual_room(settings: &Settings, size: usize) -> usize {
+fn usual_width(settings: &Settings, size: usize) -> usize {
     (66 + 2 * (size >> settings.bits) + size / settings.minimum as usize).min(size + 2)
 }
 
@@ -92,11 +92,11 @@ fn record_open_bays(
     settings: Settings,
     log: &[u8],
     size: usize,
-    room: usize,
+    width: usize,
     board: &mut [u64],
     threads: NonZeroUsize,
 ) -> Result<(), Error> {
-    let open_bays = Mutex::new(board.chunks_mut(room).enumerate().filter(|(_, bay)| bay[0] == 0));
+    let open_bays = Mutex::new(board.chunks_mut(width).enumerate().filter(|(_, bay)| bay[0] == 0));
     let take_turns = || loop {
         let turn = open_bays.lock().expect("no thread panics with the bays in hand").next();
         let Some((index, bay)) = turn else { return Ok(()) };
@@ -109,10 +109,10 @@ fn record_open_bays(
 }
 
 /// The same records in longer bays.
-fn with_longer_bays(board: &[u64], room: usize, longer: usize) -> Vec<u64> {
-    let mut wider = vec![0; board.len() / room * longer];
-    for (bay, longer_bay) in board.chunks(room).zip(wider.chunks_mut(longer)) {
-        longer_bay[..room].copy_from_slice(bay);
+fn with_longer_bays(board: &[u64], width: usize, longer: usize) -> Vec<u64> {
+    let mut wider = vec![0; board.len() / width * longer];
+    for (bay, longer_bay) in board.chunks(width).zip(wider.chunks_mut(longer)) {
+        longer_bay[..width].copy_from_slice(bay);
     }
     wider
 }

@@ -75,12 +75,19 @@ pub fn cut_log(settings: Settings, log: &[u8], list: &[u64]) -> (Outcome, Vec<u6
     (must_be(answer, Outcome { number, count }, &asked), list)
 }
 
-pub fn segment(settings: Settings, log: &[u8], size: u64, room: u64, index: u64, board: &[u64]) -> (Outcome, Vec<u64>) {
+pub fn segment(
+    settings: Settings,
+    log: &[u8],
+    size: u64,
+    width: u64,
+    index: u64,
+    board: &[u64],
+) -> (Outcome, Vec<u64>) {
     let (n, entries) = (log.len(), board.len());
-    let asked = || format!("segment {index} of {n} bytes, S {size}, R {room}, board {entries}, {settings:?}");
+    let asked = || format!("segment {index} of {n} bytes, S {size}, R {width}, board {entries}, {settings:?}");
     let (bytes, mut lent) = (Lent::holding(log), Lent::holding(board));
-    let answer = raw::segment(settings, bytes.read(), size, room, index, lent.write());
-    let (number, count, board) = second::segment(&plain(settings), log, size, room, index, board);
+    let answer = raw::segment(settings, bytes.read(), size, width, index, lent.write());
+    let (number, count, board) = second::segment(&plain(settings), log, size, width, index, board);
     bytes.must_hold(log, &asked);
     lent.must_hold(&board, &asked);
     (must_be(answer, Outcome { number, count }, &asked), board)
@@ -100,11 +107,11 @@ pub fn record(settings: Settings, log: &[u8], size: u64, index: u64, bay: &[u64]
     (must_be(answer, Outcome { number, count }, &asked), bay.to_vec())
 }
 
-pub fn merge(settings: Settings, n: u64, size: u64, room: u64, board: &[u64], list: &[u64]) -> (Outcome, Vec<u64>) {
-    let asked = || format!("merge of {n} bytes, S {size}, R {room}, room {}, {settings:?}, {board:?}", list.len());
+pub fn merge(settings: Settings, n: u64, size: u64, width: u64, board: &[u64], list: &[u64]) -> (Outcome, Vec<u64>) {
+    let asked = || format!("merge of {n} bytes, S {size}, R {width}, room {}, {settings:?}, {board:?}", list.len());
     let (bays, mut lent) = (Lent::holding(board), Lent::holding(list));
-    let answer = raw::merge(settings, n, size, room, bays.read(), lent.write());
-    let (number, count, list) = second::merge(&plain(settings), n, size, room, board, list);
+    let answer = raw::merge(settings, n, size, width, bays.read(), lent.write());
+    let (number, count, list) = second::merge(&plain(settings), n, size, width, board, list);
     bays.must_hold(board, &asked);
     lent.must_hold(&list, &asked);
     (must_be(answer, Outcome { number, count }, &asked), list)

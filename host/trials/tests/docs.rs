@@ -58,7 +58,8 @@ fn edits() -> BTreeSet<Held> {
 /// Every theorem of the promises: what is public there, but for the modules listed and for what they share of a success.
 fn promised() -> BTreeSet<Held> {
     let folder = "crates/promises/proofs";
-    let theorem_files = files(folder).into_iter().filter(|file| !["Lib.antt", "Successes.antt"].contains(&file.as_str()));
+    let theorem_files =
+        files(folder).into_iter().filter(|file| !["Lib.antt", "Successes.antt"].contains(&file.as_str()));
     let of = |file: String| {
         let path = format!("{folder}/{file}");
         let text = read(&path);

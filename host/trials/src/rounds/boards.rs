@@ -23,26 +23,26 @@ fn any_segment(noise: &mut Noise) -> (Settings, Vec<u8>, u64, u64) {
     (settings, log, size, index)
 }
 
-/// A bay's room: enough for most records, or too short.
-fn bay_room(noise: &mut Noise) -> u64 {
+/// A bay's width: enough for most records, or too short.
+fn bay_width(noise: &mut Noise) -> u64 {
     let (any, short) = (noise.between(2, 100), noise.between(0, 4));
     noise.pick(&[702, 702, any, short])
 }
 
 pub fn segment(noise: &mut Noise) -> u32 {
     let (settings, log, size, index) = any_segment(noise);
-    let room = bay_room(noise);
-    let entries = (log.len() as u64).div_ceil(size.max(64)) * room;
+    let width = bay_width(noise);
+    let entries = (log.len() as u64).div_ceil(size.max(64)) * width;
     let short = entries.saturating_sub(1);
     let entries = noise.pick(&[entries, entries, entries, entries, entries, entries + 1, short, 0]);
     let board: Vec<u64> = (0..entries).map(|_| noise.number()).collect();
-    let room = if noise.once_in(20) { noise.pick(&inputs::EXTREMES) } else { room };
-    compare::segment(settings, &log, size, room, index, &board).0.number
+    let width = if noise.once_in(20) { noise.pick(&inputs::EXTREMES) } else { width };
+    compare::segment(settings, &log, size, width, index, &board).0.number
 }
 
 pub fn record(noise: &mut Noise) -> u32 {
     let (settings, log, size, index) = any_segment(noise);
-    let bay: Vec<u64> = (0..bay_room(noise)).map(|_| noise.number()).collect();
+    let bay: Vec<u64> = (0..bay_width(noise)).map(|_| noise.number()).collect();
     compare::record(settings, &log, size, index, &bay).0.number
 }
 
@@ -55,10 +55,10 @@ pub fn merge(noise: &mut Noise) -> u32 {
     (settings.minimum, settings.maximum) = (scale * settings.minimum, scale * settings.maximum);
     (size, n) = (scale * size, scale * n);
     let marks = inputs::marks(noise, n, size, scale);
-    let mut room = noise.between(2, 60);
-    let bay: Vec<u64> = (0..room).map(|_| noise.number()).collect();
+    let mut width = noise.between(2, 60);
+    let bay: Vec<u64> = (0..width).map(|_| noise.number()).collect();
     let mut board = inputs::board(&settings, n, &marks, size, &bay);
-    for bay in board.chunks_mut(room as usize) {
+    for bay in board.chunks_mut(width as usize) {
         // A record that was too long is made one that is shorter than the segment's.
         if bay[0] == 0 && !noise.once_in(20) {
             bay[0] = bay.len() as u64 - 1;
@@ -70,7 +70,7 @@ pub fn merge(noise: &mut Noise) -> u32 {
     match noise.below(30) {
         0 => settings = inputs::settings(noise),
         1 => size = noise.pick(&inputs::EXTREMES),
-        2 => room = noise.pick(&inputs::EXTREMES),
+        2 => width = noise.pick(&inputs::EXTREMES),
         3 => n = noise.pick(&inputs::EXTREMES),
         4 => n = n.wrapping_add(noise.pick(&[1, size, u64::MAX])),
         5 => drop(board.pop()),
@@ -78,5 +78,5 @@ pub fn merge(noise: &mut Noise) -> u32 {
         _ => {}
     }
     let needed = inputs::room(&settings, n).min(10_000);
-    compare::merge(settings, n, size, room, &board, &inputs::list(noise, needed)).0.number
+    compare::merge(settings, n, size, width, &board, &inputs::list(noise, needed)).0.number
 }
