@@ -2,7 +2,7 @@
 ghost use Rattle.std.specs.Prelude.{◌≡◌};
 ghost use Rattle.amending.specs.Answers.{edit_fits};
 
-#[derive(Drop)]
+#[derive(Clone, Copy)]
 pub struct Edit {
     pub at: u64,
     pub removed: u64,

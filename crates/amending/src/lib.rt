@@ -1,4 +1,6 @@
 // Amending a list of cuts after an edit of its log.
+#![tactic(auto)]
+
 ghost use Rattle.std.specs.Prelude.{◌≡◌, true, ◌≤◌, length};
 ghost use Rattle.terms.specs.Settings.{in_range};
 ghost use Rattle.terms.specs.Answers.{longest};
@@ -17,7 +19,7 @@ use edits::Edit;
 use terms::{Refusal, Settings};
 
 // What amending answers: the entries of the three parts, or why it is refused.
-#[derive(Drop)]
+#[derive(Clone, Copy)]
 pub enum Amendment {
     Amended { front: u64, recut: u64, back: u64 },
     Refused(Refusal),

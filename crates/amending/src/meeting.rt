@@ -20,7 +20,7 @@ pub fn climb(list: &[u64], offset: u64) -> usize
 }
 
 // How many old cuts a look passed, and whether the next of them is met.
-#[derive(Drop)]
+#[derive(Clone, Copy)]
 pub struct Found {
     pub passed: usize,
     pub met: bool,

@@ -8,7 +8,7 @@ use super::edits::Edit;
 use terms::Settings;
 
 // How many cuts were made, and how many old cuts past the front come before the meeting.
-#[derive(Drop)]
+#[derive(Clone, Copy)]
 pub struct Recutting {
     pub count: u64,
     pub passed: usize,

@@ -1,5 +1,7 @@
 // The calls on a board: a segment recorded into its bay of a whole board, or into a bay that is lent alone, so that each thread can have its
 // own; and the bays merged.
+#![tactic(auto)]
+
 ghost use Rattle.std.specs.Prelude.{◌≡◌, length};
 ghost use Rattle.board.specs.Recording.{record_answer, record_leaves, segment_answer, segment_leaves};
 ghost use Rattle.board.specs.Merging.{merge_answer, merge_leaves};

@@ -1,4 +1,6 @@
 // Recording a segment: its stretch of the log is rolled through from its lead-in on.
+#![tactic(auto)]
+
 ghost use Rattle.std.specs.Prelude.{◌≡◌, true, length};
 ghost use Rattle.terms.specs.Settings.{in_range};
 ghost use Rattle.board_record.specs.Stretches.{Records};
@@ -12,7 +14,7 @@ mod cuts;
 mod marks;
 
 // How many offsets a record lists, and its marker.
-#[derive(Drop)]
+#[derive(Clone, Copy)]
 pub struct Recorded {
     pub count: u64,
     pub marker: u64,

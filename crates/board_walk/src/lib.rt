@@ -1,4 +1,6 @@
 // The walk over the bays of a board that was judged: the cuts that merging makes.
+#![tactic(auto)]
+
 ghost use Rattle.std.specs.Prelude.{◌≡◌, true, ◌-◌, ◌≤◌, ◌^◌, length};
 ghost use Rattle.terms.specs.Settings.{in_range};
 ghost use Rattle.terms.specs.Rows.{verdict};

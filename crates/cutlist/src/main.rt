@@ -1,4 +1,6 @@
 // Prints the cuts of standard input. Here it is held to an input over several blocks.
+#![tactic(auto)]
+
 fn main() {
     cutlist_program::list_input();
 }

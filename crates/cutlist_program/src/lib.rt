@@ -1,5 +1,7 @@
 // What the program cutlist does: it prints the cuts of standard input under the house settings, a line a cut with its offset and
 // the length of its piece, and a last line with the count of cuts and of bytes. What is a cut is decided by the crate pass alone.
+#![tactic(auto)]
+
 ghost use Rattle.std.specs.Prelude.{◌≡◌, ◌+◌, ◌-◌, ◌*◌, ◌≤◌, length, take};
 ghost use Rattle.io.specs.Counts.{IsPrefixLen};
 ghost use Rattle.laws.specs.Last.{last_or};
@@ -11,7 +13,7 @@ use terms::{Answer, Refusal};
 use words::runs::put_bytes;
 
 // The log so far: the carry, the last cut, and how many there are.
-#[derive(Drop)]
+#[derive(Clone, Copy)]
 struct Log {
     carry: Carry,
     last: u64,
@@ -19,21 +21,21 @@ struct Log {
 }
 
 // What a turn came to. After trouble, which standard error has been told, nothing more is printed.
-#[derive(Drop)]
+#[derive(Clone, Copy)]
 enum Came {
     Bytes,
     End,
     Trouble,
 }
 
-#[derive(Drop)]
+#[derive(Clone, Copy)]
 struct Turn {
     log: Log,
     came: Came,
 }
 
 // The lines of some cuts: how many bytes of a text they take, and the last of the cuts.
-#[derive(Drop)]
+#[derive(Clone, Copy)]
 struct Lines {
     length: usize,
     last: u64,

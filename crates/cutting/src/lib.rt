@@ -1,4 +1,6 @@
 // Marks, the next cut, and cutting a whole log that lies in memory.
+#![tactic(auto)]
+
 ghost use Rattle.std.specs.Prelude.{◌≡◌, true, length};
 ghost use Rattle.terms.specs.Settings.{in_range};
 ghost use Rattle.lists.specs.Written.{written_answer, written_list};

@@ -10,7 +10,7 @@ use signature::Tables;
 use terms::Settings;
 
 // Where a search stops: at a mark that it found, or at its end; and the signature there.
-#[derive(Drop)]
+#[derive(Clone, Copy)]
 pub struct Sought {
     pub at: usize,
     pub signature: u32,

@@ -1,4 +1,6 @@
 // Runs the figures and the refusals of segments and merging. Its stdout is written by hand from document 01.
+#![tactic(auto)]
+
 mod merges;
 mod segments;
 

@@ -1,4 +1,6 @@
 // Runs the figures and the refusals of the single pass. Its stdout is written by hand from document 01.
+#![tactic(auto)]
+
 mod carries;
 mod passes;
 

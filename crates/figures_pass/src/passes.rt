@@ -8,7 +8,7 @@ use pass_carry::Carry;
 use terms::{Answer, Settings};
 
 // The log so far: the carry, and the entries written.
-#[derive(Drop)]
+#[derive(Clone, Copy)]
 struct Pass {
     carry: Carry,
     written: u64,

@@ -1,4 +1,6 @@
 // Runs the figures and the refusals of cut sheets. Its stdout is written by hand from document 01.
+#![tactic(auto)]
+
 mod sheets;
 
 fn main() {

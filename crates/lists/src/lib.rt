@@ -1,4 +1,6 @@
 // Lists of cuts: when one is well formed, and writing one.
+#![tactic(auto)]
+
 ghost use Rattle.std.specs.Prelude.{◌≡◌, set};
 ghost use Rattle.lists.specs.WellFormed.{step_fits, well_formed};
 
@@ -53,7 +55,7 @@ pub fn put(list: &mut [u64], place: u64, entry: u64)
 
 // Cuts made one after the other and put into a lent list: how many, and the last of them. They are counted on past a full list, which no
 // longer takes them, so that only the end asks whether all were written.
-#[derive(Drop)]
+#[derive(Clone, Copy)]
 pub struct Made {
     pub count: u64,
     pub cut: u64,

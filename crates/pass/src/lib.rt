@@ -1,4 +1,6 @@
 // The single pass: a log cut as it arrives, block by block, with what is carried from one block to the next.
+#![tactic(auto)]
+
 ghost use Rattle.std.specs.Prelude.{◌≡◌, length};
 ghost use Rattle.pass_carry.specs.Carries.{fresh_carry};
 ghost use Rattle.pass.specs.Calls.{closed_carry, fresh_outcome, block_outcome, block_leaves, close_outcome, close_leaves};

@@ -1,4 +1,6 @@
 // Taking a block that no row refuses: the cuts in it, and the carry after it.
+#![tactic(auto)]
+
 ghost use Rattle.std.specs.Prelude.{◌≡◌, true, ◌+◌, ◌≤◌, ◌<◌, length};
 ghost use Rattle.terms.specs.Settings.{in_range};
 ghost use Rattle.terms.specs.Answers.{longest};

@@ -1,4 +1,6 @@
 // What the single pass carries from one block to the next, and what each of its calls hands back.
+#![tactic(auto)]
+
 ghost use Rattle.std.specs.Prelude.{◌≡◌};
 ghost use Rattle.pass_carry.specs.Outcomes.{refused};
 
@@ -8,7 +10,7 @@ pub mod order;
 
 // What the one-pass cutter carries over a block's edge.
 #[repr(C)]
-#[derive(Drop)]
+#[derive(Clone, Copy)]
 pub struct Carry {
     pub settings: Settings,
     // the bytes taken, and those of them since the last cut
@@ -22,7 +24,7 @@ pub struct Carry {
 }
 
 // What a call answers, and the carry that it hands back.
-#[derive(Drop)]
+#[derive(Clone, Copy)]
 pub struct Outcome {
     pub answer: Answer,
     pub carry: Carry,

@@ -1,4 +1,6 @@
 // The cut sheet: a list of cuts with its settings and label, written to bytes and read back.
+#![tactic(auto)]
+
 ghost use Rattle.std.specs.Prelude.{◌≡◌, length};
 ghost use Rattle.terms.specs.Rows.{verdict};
 ghost use Rattle.sheet.specs.Write.{write_sheet_rows, write_sheet_answer, write_sheet_leaves};
@@ -11,7 +13,7 @@ use sheet_format::trailer::trailer_of;
 use terms::{Answer, Label, Refusal, Settings, Verdict};
 
 // What reading a sheet answers: the label's byte, the settings and the number of cuts, or why it is refused.
-#[derive(Drop)]
+#[derive(Clone, Copy)]
 pub enum Sheet {
     Read {
         label: u8,

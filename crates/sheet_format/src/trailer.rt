@@ -9,7 +9,7 @@ use words::numbers::{number_at, put_numbers};
 use words::runs::{put_bytes, same_bytes};
 
 // The fields of a trailer, as they stand in its bytes.
-#[derive(Drop)]
+#[derive(Clone, Copy)]
 pub struct Trailer {
     pub label: u8,
     pub settings: Settings,

@@ -1,5 +1,7 @@
 // The signature of 48 bytes: read as one binary polynomial, and its remainder by x^31 + x^3 + 1. How it grows by a byte, and how
 // it rolls on by one over a log. What requires the tables or a whole window is for the crates that cut, and is not exported.
+#![tactic(auto)]
+
 ghost use Rattle.std.specs.Prelude.{◌≡◌, ◌+◌, ◌≤◌, ◌<◌, ◌^◌, length};
 ghost use Rattle.signature.specs.Signatures.{degree, low_part, span, grown, rolled, signature_of, window, signature_tables};
 

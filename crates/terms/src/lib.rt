@@ -1,4 +1,6 @@
 // The terms that every call shares: the settings, the two labels and the numbers answered.
+#![tactic(auto)]
+
 ghost use Rattle.std.specs.Prelude.{◌≡◌};
 ghost use Rattle.terms.specs.Settings.{in_range, no_settings};
 ghost use Rattle.terms.specs.Refusals.{number_of};
@@ -6,7 +8,7 @@ ghost use Rattle.terms.specs.Labels.{byte_of};
 
 // How a log is cut: K pattern bits, their target, and the least and the greatest length of a piece.
 #[repr(C)]
-#[derive(Drop)]
+#[derive(Clone, Copy)]
 pub struct Settings {
     pub bits: u32,
     pub target: u32,
@@ -23,14 +25,14 @@ pub const HOUSE: Settings = Settings {
 };
 
 // What a sheet says of its log: an exercise in the hall, or the training ship.
-#[derive(Drop)]
+#[derive(Clone, Copy)]
 pub enum Label {
     Practice,
     Live,
 }
 
 // Why a call is refused: a name for each row of the table of numbers.
-#[derive(Drop)]
+#[derive(Clone, Copy)]
 pub enum Refusal {
     SettingsOutOfRange,
     LogTooLong,
@@ -52,14 +54,14 @@ pub enum Refusal {
 }
 
 // What a call answers: the entries or bytes written, or why it is refused.
-#[derive(Drop)]
+#[derive(Clone, Copy)]
 pub enum Answer {
     Wrote(u64),
     Refused(Refusal),
 }
 
 // What judging a call's rows comes to, before anything is written.
-#[derive(Drop)]
+#[derive(Clone, Copy)]
 pub enum Verdict {
     Fine,
     Wrong(Refusal),
@@ -82,6 +84,7 @@ impl Settings {
     }
 
     // Whether every setting is within its range.
+    #[tactic(auto, unfolding(crate::specs::Settings::in_range))]
     pub fn in_range(self) -> bool
         ensures { result ≡ in_range self }
     {

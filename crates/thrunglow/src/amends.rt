@@ -8,7 +8,7 @@ use terms::Settings;
 
 // The entries of the three parts: kept, cut again, moved. All 0 beside a refusal.
 #[repr(C)]
-#[derive(Drop)]
+#[derive(Clone, Copy)]
 pub struct Amendment {
     pub number: u32,
     pub front: u64,

@@ -6,7 +6,7 @@ use terms::Answer;
 
 // A number, 0 for a success, and the entries or bytes written.
 #[repr(C)]
-#[derive(Drop)]
+#[derive(Clone, Copy)]
 pub struct Outcome {
     pub number: u32,
     pub count: u64,

@@ -9,7 +9,7 @@ use terms::Settings;
 
 // A number, the entries written, and the carry handed back.
 #[repr(C)]
-#[derive(Drop)]
+#[derive(Clone, Copy)]
 pub struct Passed {
     pub number: u32,
     pub count: u64,

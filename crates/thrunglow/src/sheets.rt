@@ -11,7 +11,7 @@ use terms::{Label, Settings};
 
 // What a sheet says: its label's byte, its settings and its count of cuts; all 0 beside a refusal.
 #[repr(C)]
-#[derive(Drop)]
+#[derive(Clone, Copy)]
 pub struct Reading {
     pub number: u32,
     pub label: u8,
