@@ -5,6 +5,7 @@ ghost use Rattle.std.specs.Prelude.{◌≡◌, set};
 ghost use Rattle.lists.specs.WellFormed.{step_fits, well_formed};
 
 // Whether the step from one entry to the next is allowed. The numbers are any: that they rise is seen before they are subtracted.
+#[tactic(auto, unfolding(crate::specs::WellFormed::step_fits))]
 pub fn step_fits(minimum: u64, maximum: u64, last: bool, before: u64, entry: u64) -> bool
     ensures { result ≡ step_fits minimum maximum last before entry }
 {
