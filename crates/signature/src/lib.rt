@@ -11,6 +11,7 @@ mod entries;
 // over many bytes takes them once, into a local, and lends them: each use of a constant table copies it.
 pub type Tables = [[u32; 256]; 2];
 
+#[tactic(auto, unfolding(crate::specs::Signatures::signature_tables))]
 pub fn tables() -> Tables
     ensures { result ≡ signature_tables }
 {
