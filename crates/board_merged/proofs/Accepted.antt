@@ -74,14 +74,19 @@ module _ (mark : ℕ → Bool) (lo hi : ℕ) (positive : 0 < lo) (order : lo ≤
   unfolding fits from_marker prepend is_listed followers
   fits_on b r other = rw (other, is_listed, followers)
 
+  -- the marker alone first, and the cuts after it
+  fits_from : (b : ℕ) → fits (record { marker = b; offsets = b ∷ cuts_up_to mark lo hi e b }) ≡ true
+  unfolding fits from_marker is_listed followers
+  fits_from b = rw (eq-eqb b b refl, is_listed, followers, or-true) (steps_cuts b)
+
   fits_after : {a : ℕ} {marks : List ℕ} → Marks mark e a marks → fits (record_after mark lo hi e a marks) ≡ true
   unfolding fits from_marker record_after is_listed followers steps_within
   fits_after (none_left u) = refl
   fits_after {a} (then_mark b {l = marks} above inside m u r) =
       by_test (is_marker lo hi a b)
-      (λ t. rw (at_marker mark lo hi e a b marks t, eq-eqb b b refl, is_listed, followers, or-true) (steps_cuts b))
-      (λ t. rw (no_marker mark lo hi e a b marks t)
-      (fits_on b (record_after mark lo hi e b marks) (marker_later mark lo hi e b (omega arith) (omega arith) r) ∙ fits_after r))
+      (λ t. ap fits (at_marker mark lo hi e a b marks t) ∙ fits_from b)
+      (λ t. ap fits (no_marker mark lo hi e a b marks t)
+      ∙ (fits_on b (record_after mark lo hi e b marks) (marker_later mark lo hi e b (omega arith) (omega arith) r) ∙ fits_after r))
 
   fits_slow : {a : ℕ} {marks : List ℕ} → Marks mark e a marks → fits (slow_record mark lo hi e marks) ≡ true
   unfolding fits from_marker slow_record is_listed followers steps_within

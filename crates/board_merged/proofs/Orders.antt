@@ -175,6 +175,7 @@ module _ (s : Settings) (log : List ℕ) (size width : ℕ) where
     pub then_held : (calls board : List ℕ) → shape i (length board) ≡ Fine → Memᴰ i calls
         → Holds (bay_of width i (record_all s log size width calls board)) (segment_of s log size i)
     unfolding record_all
+    then_held [] board v m = elim m [ ]
     then_held (j ∷ calls) board v (Memᴰ.head e) =
         still_held calls (call j board) (ap (shape i) (length_call j board) ∙ v) (rw (sym e) (wrote_holds board v))
     then_held (j ∷ calls) board v (Memᴰ.tail m) = then_held calls (call j board) (ap (shape i) (length_call j board) ∙ v) m
