@@ -25,5 +25,5 @@ pub fn put_bytes(part: &[u8], at: usize, dst: &mut [u8])
     requires { at + length part.now ≤ length dst.old }
     ensures { dst.new ≡ over_from at part.now dst.old }
 {
-    bytes::copy(part, &mut dst[at..]);
+    dst[at..at + part.len()].copy_from_slice(part);
 }
