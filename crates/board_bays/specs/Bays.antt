@@ -1,5 +1,5 @@
 -- Records and bays: a bay read back, when it is done, and when it is malformed. Document 01, "Segments and the board".
-use Rattle.std.specs.Prelude.{ℕ, zero, suc, ◌+◌, ◌-◌, ◌*◌, Bool, true, false, ◌&&◌, ◌||◌, ◌≡◌, List, [], ◌∷◌, ◌++◌, leb, ltb, eqb, length, get_or, take, drop}
+use Rattle.std.specs.Prelude.{ℕ, zero, suc, ◌-◌, ◌*◌, Bool, true, false, ◌&&◌, ◌||◌, ◌≡◌, List, [], ◌∷◌, ◌++◌, leb, ltb, eqb, length, get_or, take, drop}
 use Rattle.terms.specs.declared.Settings.{Settings}
 use Rattle.lists.specs.WellFormed.{step_fits}
 use Rattle.board_bays.specs.Segments.{segment_start, segment_end}

@@ -27,6 +27,7 @@ pub fn end_of(n: u64, start: u64, size: u64) -> u64
     if next < n { next } else { n }
 }
 
+#[tactic(auto, unfolding(crate::specs::Segments::shape_fits, crate::specs::Segments::size_in_range))]
 pub fn shape_fits(size: u64, width: u64) -> bool
     ensures { result ≡ shape_fits size width }
 {
@@ -42,6 +43,7 @@ pub fn shape_fits(size: u64, width: u64) -> bool
     true
 }
 
+#[tactic(auto, unfolding(crate::specs::Segments::board_fits))]
 pub fn board_fits(n: u64, size: u64, width: u64, numbers: u64) -> bool
     ensures { result ≡ board_fits n size width numbers }
 {
@@ -54,6 +56,7 @@ pub fn board_fits(n: u64, size: u64, width: u64, numbers: u64) -> bool
     true
 }
 
+#[tactic(auto, unfolding(crate::specs::Segments::bay_fits))]
 pub fn bay_fits(n: u64, size: u64, width: u64, i: u64) -> bool
     ensures { result ≡ bay_fits n size width i }
 {
@@ -66,6 +69,7 @@ pub fn bay_fits(n: u64, size: u64, width: u64, i: u64) -> bool
     true
 }
 
+#[tactic(auto, unfolding(crate::specs::Segments::segment_fits))]
 pub fn segment_fits(n: u64, size: u64, width: u64, i: u64, numbers: u64) -> bool
     ensures { result ≡ segment_fits n size width i numbers }
 {
