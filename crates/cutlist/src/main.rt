@@ -1,6 +1,6 @@
 // Prints the cuts of standard input. Here it is held to an input over several blocks.
 #![tactic(auto)]
 
-fn main() {
-    cutlist_program::list_input();
+fn main(rt: HostRuntime) {
+    cutlist_program::list_input(&rt);
 }

@@ -1,6 +1,6 @@
 // The program cutlist, held to what it prints for an empty input.
 #![tactic(auto)]
 
-fn main() {
-    cutlist_program::list_input();
+fn main(rt: HostRuntime) {
+    cutlist_program::list_input(&rt);
 }

@@ -7,8 +7,10 @@ ghost use Rattle.io.specs.Counts.{IsPrefixLen};
 ghost use Rattle.laws.specs.Last.{last_or};
 ghost use Rattle.cutlist_program.specs.Text.{Put, spelled, pair, lines, counts};
 
-use libc::{STDERR_FILENO, STDIN_FILENO, STDOUT_FILENO};
+use arrayvec::ArrayString;
 use pass_carry::{Carry, Outcome};
+use std::fmt::Write;
+use std::io::{Error, Read};
 use terms::{Answer, Refusal};
 use words::runs::put_bytes;
 
@@ -41,25 +43,36 @@ struct Lines {
     last: u64,
 }
 
-// Says on standard error why a call was refused.
-fn complain(why: Refusal) {
+// Says on standard error why a call was refused. Where that takes nothing either, nobody is left to be told.
+fn complain(rt: &impl Eprint, why: Refusal) {
     let number = why.number();
     if number == 2 {
-        io::write_all(STDERR_FILENO, b"cutlist: the log is past 2^40 bytes\n");
+        let _ = rt.eprintln("cutlist: the log is past 2^40 bytes");
         return;
     }
-    io::write_all(STDERR_FILENO, b"cutlist: refused by number ");
-    io::print_decimal(STDERR_FILENO, number as u64);
-    io::write_all(STDERR_FILENO, b"\n");
+    let _ = eprintln!(rt; "cutlist: refused by number {number}");
+}
+
+// Says on standard error what failed and why, in the system's words without the number that an error's text ends in.
+fn fail(rt: &impl Eprint, what: &str, error: Error) {
+    let mut text = ArrayString::<320>::new();
+    let _ = write!(text, "{error}");
+    let reason = match text.as_str().rsplit_once(" (os error ") {
+        Some((reason, _)) => reason,
+        None => text.as_str(),
+    };
+    let _ = eprintln!(rt; "{what}: {reason}");
 }
 
 // Writes a text to standard output, and answers whether all of it was written; if not, standard error says why.
-fn print(text: &[u8]) -> bool {
-    if io::write_all(STDOUT_FILENO, text) {
-        return true;
+fn print(rt: &(impl Print + Eprint), text: &[u8]) -> bool {
+    match rt.write_all(text) {
+        Ok(()) => true,
+        Err(error) => {
+            fail(rt, "cutlist: cannot write", error);
+            false
+        }
     }
-    os::fail(b"cutlist: cannot write");
-    false
 }
 
 // Puts a run of bytes into a text, and answers the place after it, as the functions below do with theirs.
@@ -138,7 +151,7 @@ fn put_lines(text: &mut [u8], list: &[u64], count: u64, last: u64) -> Lines
 }
 
 // Prints the cuts that a call wrote into a list, if it was not refused.
-fn print_cuts(log: Log, outcome: Outcome, list: &[u64]) -> Turn
+fn print_cuts(rt: &(impl Print + Eprint), log: Log, outcome: Outcome, list: &[u64]) -> Turn
     requires { length list.now ≤ 33 }
 {
     let trouble = Turn {
@@ -149,14 +162,14 @@ fn print_cuts(log: Log, outcome: Outcome, list: &[u64]) -> Turn
     let count = match answer {
         Answer::Wrote(count) => count,
         Answer::Refused(why) => {
-            complain(why);
+            complain(rt, why);
             return trouble;
         }
     };
     let mut text = [0u8; 1_386];
     let lines = put_lines(&mut text, list, count, log.last);
     let length = lines.length;
-    if !print(&text[..length]) {
+    if !print(rt, &text[..length]) {
         return trouble;
     }
     let carry = outcome.carry;
@@ -171,63 +184,69 @@ fn print_cuts(log: Log, outcome: Outcome, list: &[u64]) -> Turn
 }
 
 // Prints the last line.
-fn print_counts(cuts: u64, bytes: u64) {
+fn print_counts(rt: &(impl Print + Eprint), cuts: u64, bytes: u64) {
     let mut text = [0u8; 53];
     let length = put_counts(&mut text, cuts, bytes);
-    print(&text[..length]);
+    print(rt, &text[..length]);
 }
 
 // Reads once and cuts what came, be it less than the buffer holds; only a read of nothing is the end of the log.
-fn read_once(log: Log, buffer: &mut [u8]) -> Turn {
-    let got = libc::read(STDIN_FILENO, buffer);
-    if got < 0 {
-        os::fail(b"cutlist: cannot read");
-        return Turn {
-            log: log,
-            came: Came::Trouble,
-        };
-    }
-    if got == 0 {
+fn read_once(
+    rt: &(impl Print + Eprint),
+    input: &mut impl Read,
+    log: Log,
+    buffer: &mut [u8],
+) -> Turn {
+    let n = match input.read(buffer) {
+        Ok(n) => n,
+        Err(error) => {
+            fail(rt, "cutlist: cannot read", error);
+            return Turn {
+                log: log,
+                came: Came::Trouble,
+            };
+        }
+    };
+    if n == 0 {
         return Turn {
             log: log,
             came: Came::End,
         };
     }
-    let n = io::count(got, buffer);
     let mut list = [0u64; 33];
     let carry = log.carry;
     let outcome = pass::block(carry, &buffer[..n], &mut list);
-    print_cuts(log, outcome, &list)
+    print_cuts(rt, log, outcome, &list)
 }
 
 // Ends the log, and prints the last cut, if closing adds one, and the last line.
-fn finish(log: Log) {
+fn finish(rt: &(impl Print + Eprint), log: Log) {
     let mut list = [0u64; 33];
     let carry = log.carry;
     let outcome = pass::close(carry, &mut list);
-    let turn = print_cuts(log, outcome, &list);
+    let turn = print_cuts(rt, log, outcome, &list);
     let came = turn.came;
     if let Came::Bytes = came {
-        print_counts(turn.log.cuts, turn.log.carry.taken);
+        print_counts(rt, turn.log.cuts, turn.log.carry.taken);
     }
 }
 
 // A proved loop has to end, and nothing says that an input does: the turns are counted down from a number that no log uses up.
-fn read_all(start: Log) {
+fn read_all(rt: &(impl Print + Eprint), input: &mut impl Read, start: Log) {
     let mut space = io::large_buffer();
     let buffer: &mut [u8] = &mut space;
     let mut log = start;
     let mut turns = u64::MAX;
     while turns > 0 {
         turns -= 1;
-        let turn = read_once(log, buffer);
+        let turn = read_once(rt, input, log, buffer);
         let came = turn.came;
         match came {
             Came::Bytes => {
                 log = turn.log;
             }
             Came::End => {
-                finish(log);
+                finish(rt, log);
                 return;
             }
             Came::Trouble => {
@@ -238,12 +257,17 @@ fn read_all(start: Log) {
 }
 
 // Cuts standard input to its end.
-pub fn list_input() {
+pub fn list_input(rt: &(impl Input + Print + Eprint)) {
     let outcome = pass::fresh(terms::HOUSE);
     let carry = outcome.carry;
-    read_all(Log {
-        carry: carry,
-        last: 0,
-        cuts: 0,
-    });
+    let mut input = rt.reader();
+    read_all(
+        rt,
+        &mut input,
+        Log {
+            carry: carry,
+            last: 0,
+            cuts: 0,
+        },
+    );
 }

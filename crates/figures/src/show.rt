@@ -1,69 +1,64 @@
 // Lines of text: an answer, and the entries of a lent list as the call left them.
-use libc::STDOUT_FILENO;
+use std::io;
 use terms::Answer;
 
-pub fn text(what: &[u8]) {
-    io::write_all(STDOUT_FILENO, what);
+pub fn text(rt: &impl Print, what: &str) -> io::Result<()> {
+    rt.print(what)
 }
 
-pub fn number(n: u64) {
-    io::print_decimal(STDOUT_FILENO, n);
+pub fn number(rt: &impl Print, n: u64) -> io::Result<()> {
+    rt.print(n)
 }
 
-pub fn answer(what: &[u8], answer: Answer) {
-    text(what);
+pub fn answer(rt: &impl Print, what: &str, answer: Answer) -> io::Result<()> {
+    text(rt, what)?;
     match answer {
         Answer::Wrote(count) => {
-            text(b": wrote ");
-            number(count);
+            text(rt, ": wrote ")?;
+            number(rt, count)
         }
         Answer::Refused(why) => {
-            text(b": refused ");
-            number(why.number() as u64);
+            text(rt, ": refused ")?;
+            number(rt, why.number() as u64)
         }
     }
 }
 
-pub fn after_space(n: u64) {
-    text(b" ");
-    number(n);
+pub fn after_space(rt: &impl Print, n: u64) -> io::Result<()> {
+    text(rt, " ")?;
+    number(rt, n)
 }
 
 // The entries, each after a space.
-fn each(list: &[u64]) {
-    let mut i: usize = 0;
-    while i < list.len() {
-        after_space(list[i]);
-        i += 1;
+fn each(rt: &impl Print, list: &[u64]) -> io::Result<()> {
+    for n in list {
+        after_space(rt, *n)?;
     }
+    Ok(())
 }
 
-pub fn entries(list: &[u64]) {
-    each(list);
-    text(b"\n");
+pub fn entries(rt: &impl Print, list: &[u64]) -> io::Result<()> {
+    each(rt, list)?;
+    text(rt, "\n")
 }
 
-fn hex_digits(byte: u8) {
-    io::print_hex(STDOUT_FILENO, byte as u64, 2);
+fn hex_digits(rt: &impl Print, byte: u8) -> io::Result<()> {
+    print!(rt; "{byte:02x}")
 }
 
 // The first bytes, two digits each.
-fn each_hex(bytes: &[u8], count: usize) {
-    let mut i: usize = 0;
-    while i < bytes.len() {
-        if i == count {
-            return;
-        }
-        hex_digits(bytes[i]);
-        i += 1;
+fn each_hex(rt: &impl Print, bytes: &[u8], count: usize) -> io::Result<()> {
+    for byte in bytes.iter().take(count) {
+        hex_digits(rt, *byte)?;
     }
+    Ok(())
 }
 
 // The same with the line's end, or nothing where no byte is to be shown.
-pub fn hex(bytes: &[u8], count: usize) {
+pub fn hex(rt: &impl Print, bytes: &[u8], count: usize) -> io::Result<()> {
     if count == 0 {
-        return;
+        return Ok(());
     }
-    each_hex(bytes, count);
-    text(b"\n");
+    each_hex(rt, bytes, count)?;
+    text(rt, "\n")
 }

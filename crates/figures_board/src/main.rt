@@ -4,7 +4,9 @@
 mod merges;
 mod segments;
 
-fn main() {
-    segments::run();
-    merges::run();
+use std::io;
+
+fn main(rt: HostRuntime) -> io::Result<()> {
+    segments::run(&rt)?;
+    merges::run(&rt)
 }

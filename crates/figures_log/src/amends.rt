@@ -5,27 +5,30 @@ use amending::edits::Edit;
 use amending::{Amendment, amend};
 use figures::logs::all_bits;
 use figures::show;
+use std::io;
 
-fn counts(what: &[u8], amendment: Amendment) {
-    show::text(what);
+fn counts(rt: &impl Print, what: &str, amendment: Amendment) -> io::Result<()> {
+    show::text(rt, what)?;
     match amendment {
         Amendment::Amended { front, recut, back } => {
-            show::text(b": counts");
-            show::after_space(front);
-            show::after_space(recut);
-            show::after_space(back);
-            show::text(b" list");
+            show::text(rt, ": counts")?;
+            show::after_space(rt, front)?;
+            show::after_space(rt, recut)?;
+            show::after_space(rt, back)?;
+            show::text(rt, " list")?;
         }
         Amendment::Refused(why) => {
-            show::text(b": refused ");
-            show::number(why.number() as u64);
+            show::text(rt, ": refused ")?;
+            show::number(rt, why.number() as u64)?;
         }
     }
+    Ok(())
 }
 
 // The log is the first of the bytes lent.
 fn edit(
-    what: &[u8],
+    rt: &impl Print,
+    what: &str,
     old: &[u64],
     s: u64,
     d: u64,
@@ -33,9 +36,10 @@ fn edit(
     bytes: &[u8],
     length: usize,
     list: &mut [u64],
-) {
+) -> io::Result<()> {
     if length <= bytes.len() {
         counts(
+            rt,
             what,
             amend(
                 all_bits(48, 200),
@@ -48,16 +52,25 @@ fn edit(
                 &bytes[..length],
                 list,
             ),
-        );
-        show::entries(list);
+        )?;
+        show::entries(rt, list)?;
     }
+    Ok(())
 }
 
 // Amends the list of log C, lent with room for 11 entries that start as sevens.
-fn edit_c(what: &[u8], s: u64, d: u64, e: u64, bytes: &[u8], length: usize) {
+fn edit_c(
+    rt: &impl Print,
+    what: &str,
+    s: u64,
+    d: u64,
+    e: u64,
+    bytes: &[u8],
+    length: usize,
+) -> io::Result<()> {
     let old = [100u64, 200, 300, 400];
     let mut list = [7u64; 11];
-    edit(what, &old, s, d, e, bytes, length, &mut list);
+    edit(rt, what, &old, s, d, e, bytes, length, &mut list)
 }
 
 // Ones at these places of an otherwise zero log: the marks follow them.
@@ -73,51 +86,74 @@ fn ones(a: usize, b: usize, c: usize, d: usize) -> [u8; 500]
     log
 }
 
-fn figures() {
+fn figures(rt: &impl Print) -> io::Result<()> {
     let put_in = ones(99, 150, 200, 300);
-    edit_c(b"one byte 1 put in at 150", 150, 0, 1, &put_in, 401);
+    edit_c(rt, "one byte 1 put in at 150", 150, 0, 1, &put_in, 401)?;
     let c = ones(99, 199, 299, 299);
-    edit_c(b"ten zeros appended", 400, 0, 10, &c, 410);
+    edit_c(rt, "ten zeros appended", 400, 0, 10, &c, 410)?;
     let twice = ones(99, 199, 299, 399);
     edit_c(
-        b"a copy of the first piece put in at 100",
+        rt,
+        "a copy of the first piece put in at 100",
         100,
         0,
         100,
         &twice,
         500,
-    );
-    edit_c(b"nothing replaced at 150", 150, 0, 0, &c, 400);
-    edit_c(b"nothing replaced at the end", 400, 0, 0, &c, 400);
-    edit_c(b"the last piece taken away", 300, 100, 0, &c, 300);
-    edit_c(b"everything taken away", 0, 400, 0, &c, 0);
+    )?;
+    edit_c(rt, "nothing replaced at 150", 150, 0, 0, &c, 400)?;
+    edit_c(rt, "nothing replaced at the end", 400, 0, 0, &c, 400)?;
+    edit_c(rt, "the last piece taken away", 300, 100, 0, &c, 300)?;
+    edit_c(rt, "everything taken away", 0, 400, 0, &c, 0)
 }
 
-fn edits_refused() {
+fn edits_refused(rt: &impl Print) -> io::Result<()> {
     let c = ones(99, 199, 299, 299);
-    edit_c(b"s past the old length", 401, 0, 0, &c, 400);
-    edit_c(b"d past what follows s", 350, 51, 0, &c, 349);
-    edit_c(b"another length", 350, 0, 1, &c, 400);
+    edit_c(rt, "s past the old length", 401, 0, 0, &c, 400)?;
+    edit_c(rt, "d past what follows s", 350, 51, 0, &c, 349)?;
+    edit_c(rt, "another length", 350, 0, 1, &c, 400)?;
     edit_c(
-        b"a length that would wrap",
+        rt,
+        "a length that would wrap",
         0,
         0,
         18_446_744_073_709_551_216,
         &c,
         0,
-    );
+    )
 }
 
-fn rooms_and_lists() {
+fn rooms_and_lists(rt: &impl Print) -> io::Result<()> {
     let c = ones(99, 199, 299, 299);
     let old = [100u64, 200, 300, 400];
     let mut room = [7u64; 10];
-    edit(b"room for one less", &old, 400, 0, 80, &c, 480, &mut room);
-    edit(b"room for one more", &old, 400, 0, 79, &c, 479, &mut room);
+    edit(
+        rt,
+        "room for one less",
+        &old,
+        400,
+        0,
+        80,
+        &c,
+        480,
+        &mut room,
+    )?;
+    edit(
+        rt,
+        "room for one more",
+        &old,
+        400,
+        0,
+        79,
+        &c,
+        479,
+        &mut room,
+    )?;
     let mut list = [7u64; 3];
     let short = [10u64, 60];
     edit(
-        b"a short step before the last",
+        rt,
+        "a short step before the last",
         &short,
         0,
         0,
@@ -125,9 +161,10 @@ fn rooms_and_lists() {
         &c,
         60,
         &mut list,
-    );
+    )?;
     edit(
-        b"from an empty log",
+        rt,
+        "from an empty log",
         &short[..0],
         0,
         0,
@@ -135,16 +172,17 @@ fn rooms_and_lists() {
         &c,
         101,
         &mut list,
-    );
+    )
 }
 
 // An old end that is a mark is no front cut either; a list that is not the log's is taken as it stands.
-fn other_lists() {
+fn other_lists(rt: &impl Print) -> io::Result<()> {
     let c = ones(99, 199, 299, 299);
     let ended = [100u64];
     let mut list = [7u64; 3];
     edit(
-        b"ten zeros appended to a mark",
+        rt,
+        "ten zeros appended to a mark",
         &ended,
         100,
         0,
@@ -152,11 +190,12 @@ fn other_lists() {
         &c,
         110,
         &mut list,
-    );
+    )?;
     let untrue = [60u64, 130, 250, 400];
     let mut room = [7u64; 9];
     edit(
-        b"from a list that is not the log's",
+        rt,
+        "from a list that is not the log's",
         &untrue,
         70,
         0,
@@ -164,12 +203,12 @@ fn other_lists() {
         &c,
         400,
         &mut room,
-    );
+    )
 }
 
-pub fn run() {
-    figures();
-    edits_refused();
-    rooms_and_lists();
-    other_lists();
+pub fn run(rt: &impl Print) -> io::Result<()> {
+    figures(rt)?;
+    edits_refused(rt)?;
+    rooms_and_lists(rt)?;
+    other_lists(rt)
 }

@@ -4,7 +4,9 @@
 mod amends;
 mod whole;
 
-fn main() {
-    whole::run();
-    amends::run();
+use std::io;
+
+fn main(rt: HostRuntime) -> io::Result<()> {
+    whole::run(&rt)?;
+    amends::run(&rt)
 }

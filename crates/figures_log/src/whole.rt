@@ -2,56 +2,68 @@
 use cutting::cut_log;
 use figures::logs::eight_bits;
 use figures::show;
+use std::io;
 use terms::Settings;
 
-fn cut(what: &[u8], settings: Settings, log: &[u8]) {
+fn cut(rt: &impl Print, what: &str, settings: Settings, log: &[u8]) -> io::Result<()> {
     let mut list = [7u64; 6];
-    show::answer(what, cut_log(settings, log, &mut list));
-    show::entries(&list);
+    show::answer(rt, what, cut_log(settings, log, &mut list))?;
+    show::entries(rt, &list)
 }
 
 // Zeros have signature 0, which no target is: every cut is forced.
-fn zeros() {
+fn zeros(rt: &impl Print) -> io::Result<()> {
     let log = [0u8; 144];
     let settings = eight_bits(1, 48, 96);
-    cut(b"no bytes", settings, &log[..0]);
-    cut(b"one byte", settings, &log[..1]);
-    cut(b"47 bytes", settings, &log[..47]);
-    cut(b"48 bytes", settings, &log[..48]);
-    cut(b"49 bytes", settings, &log[..49]);
-    cut(b"96 bytes", settings, &log[..96]);
-    cut(b"97 bytes", settings, &log[..97]);
-    cut(b"minimum = maximum", eight_bits(1, 48, 48), &log);
-    cut(b"the largest maximum", eight_bits(1, 48, 16_777_216), &log);
+    cut(rt, "no bytes", settings, &log[..0])?;
+    cut(rt, "one byte", settings, &log[..1])?;
+    cut(rt, "47 bytes", settings, &log[..47])?;
+    cut(rt, "48 bytes", settings, &log[..48])?;
+    cut(rt, "49 bytes", settings, &log[..49])?;
+    cut(rt, "96 bytes", settings, &log[..96])?;
+    cut(rt, "97 bytes", settings, &log[..97])?;
+    cut(rt, "minimum = maximum", eight_bits(1, 48, 48), &log)?;
+    cut(
+        rt,
+        "the largest maximum",
+        eight_bits(1, 48, 16_777_216),
+        &log,
+    )
 }
 
 // Byte 47 is 1, so 48 is a mark for target 1: log A as far as it goes.
-fn marked() {
+fn marked(rt: &impl Print) -> io::Result<()> {
     let mut log = [0u8; 60];
     log[47] = 1;
     let settings = eight_bits(1, 48, 96);
-    cut(b"47 bytes, the mark not reached", settings, &log[..47]);
-    cut(b"48 bytes, a mark at the end", settings, &log[..48]);
-    cut(b"49 bytes, a mark before the end", settings, &log[..49]);
-    cut(b"A at 48/96, target 18", eight_bits(18, 48, 96), &log);
+    cut(rt, "47 bytes, the mark not reached", settings, &log[..47])?;
+    cut(rt, "48 bytes, a mark at the end", settings, &log[..48])?;
+    cut(rt, "49 bytes, a mark before the end", settings, &log[..49])?;
+    cut(rt, "A at 48/96, target 18", eight_bits(18, 48, 96), &log)
 }
 
-fn refused() {
+fn refused(rt: &impl Print) -> io::Result<()> {
     let log = [0u8; 288];
     cut(
-        b"a maximum past the largest",
+        rt,
+        "a maximum past the largest",
         eight_bits(1, 48, 16_777_217),
         &log,
-    );
-    cut(b"a minimum below the window", eight_bits(1, 47, 96), &log);
-    cut(b"a target of 0", eight_bits(0, 48, 96), &log);
-    cut(b"a target past the bits", eight_bits(256, 48, 96), &log);
-    cut(b"room for one less", eight_bits(1, 48, 96), &log);
-    cut(b"room for one more", eight_bits(1, 48, 96), &log[..287]);
+    )?;
+    cut(
+        rt,
+        "a minimum below the window",
+        eight_bits(1, 47, 96),
+        &log,
+    )?;
+    cut(rt, "a target of 0", eight_bits(0, 48, 96), &log)?;
+    cut(rt, "a target past the bits", eight_bits(256, 48, 96), &log)?;
+    cut(rt, "room for one less", eight_bits(1, 48, 96), &log)?;
+    cut(rt, "room for one more", eight_bits(1, 48, 96), &log[..287])
 }
 
-pub fn run() {
-    zeros();
-    marked();
-    refused();
+pub fn run(rt: &impl Print) -> io::Result<()> {
+    zeros(rt)?;
+    marked(rt)?;
+    refused(rt)
 }

@@ -4,7 +4,9 @@
 mod carries;
 mod passes;
 
-fn main() {
-    passes::run();
-    carries::run();
+use std::io;
+
+fn main(rt: HostRuntime) -> io::Result<()> {
+    passes::run(&rt)?;
+    carries::run(&rt)
 }

@@ -3,6 +3,8 @@
 
 mod sheets;
 
-fn main() {
-    sheets::run();
+use std::io;
+
+fn main(rt: HostRuntime) -> io::Result<()> {
+    sheets::run(&rt)
 }

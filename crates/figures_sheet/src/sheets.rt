@@ -2,6 +2,7 @@
 use figures::logs::all_bits;
 use figures::show;
 use sheet::{Sheet, read_sheet, write_sheet};
+use std::io;
 use terms::{Answer, Label, Refusal, Settings};
 
 // The sheet, after five bytes that are not its own.
@@ -22,43 +23,44 @@ fn damage(bytes: &mut [u8], place: usize, byte: u8) {
 }
 
 // Reads what stands from a place on.
-fn read(what: &[u8], bytes: &[u8], from: usize, asked: Label) {
+fn read(rt: &impl Print, what: &str, bytes: &[u8], from: usize, asked: Label) -> io::Result<()> {
     if from <= bytes.len() {
-        read_part(what, &bytes[from..], asked);
+        read_part(rt, what, &bytes[from..], asked)?;
     }
+    Ok(())
 }
 
-fn read_part(what: &[u8], bytes: &[u8], asked: Label) {
+fn read_part(rt: &impl Print, what: &str, bytes: &[u8], asked: Label) -> io::Result<()> {
     let mut list = [7u64; 5];
-    show::text(what);
+    show::text(rt, what)?;
     match read_sheet(bytes, asked, &mut list) {
         Sheet::Read {
             label,
             settings,
             count,
         } => {
-            show::text(b": read");
-            show::after_space(label as u64);
-            show::after_space(settings.bits as u64);
-            show::after_space(settings.target as u64);
-            show::after_space(settings.minimum);
-            show::after_space(settings.maximum);
-            show::after_space(count);
-            show::text(b" list");
+            show::text(rt, ": read")?;
+            show::after_space(rt, label as u64)?;
+            show::after_space(rt, settings.bits as u64)?;
+            show::after_space(rt, settings.target as u64)?;
+            show::after_space(rt, settings.minimum)?;
+            show::after_space(rt, settings.maximum)?;
+            show::after_space(rt, count)?;
+            show::text(rt, " list")?;
         }
         Sheet::Refused(why) => {
-            show::text(b": refused ");
-            show::number(why.number() as u64);
+            show::text(rt, ": refused ")?;
+            show::number(rt, why.number() as u64)?;
         }
     }
-    show::entries(&list);
+    show::entries(rt, &list)
 }
 
-fn damaged(what: &[u8], place: usize, byte: u8) {
+fn damaged(rt: &impl Print, what: &str, place: usize, byte: u8) -> io::Result<()> {
     let mut bytes = [9u8; 69];
     fill(&mut bytes);
     damage(&mut bytes, place, byte);
-    read(what, &bytes, 0, Label::Practice);
+    read(rt, what, &bytes, 0, Label::Practice)
 }
 
 // Writes a list into the first bytes, and shows the answer and so many of them.
@@ -76,95 +78,108 @@ fn write_in(
     }
 }
 
-fn write(what: &[u8], settings: Settings, label: Label, list: &[u64], room: usize, shown: usize) {
+fn write(
+    rt: &impl Print,
+    what: &str,
+    settings: Settings,
+    label: Label,
+    list: &[u64],
+    room: usize,
+    shown: usize,
+) -> io::Result<()> {
     let mut bytes = [9u8; 69];
     let answer = write_in(&mut bytes, settings, label, list, room);
-    show::answer(what, answer);
-    show::text(b"\n");
-    show::hex(&bytes, shown);
+    show::answer(rt, what, answer)?;
+    show::text(rt, "\n")?;
+    show::hex(rt, &bytes, shown)
 }
 
-fn figures() {
+fn figures(rt: &impl Print) -> io::Result<()> {
     let list = [100u64, 200, 300, 400];
     write(
-        b"C's list as practice",
+        rt,
+        "C's list as practice",
         all_bits(48, 200),
         Label::Practice,
         &list,
         69,
         66,
-    );
+    )?;
     write(
-        b"an empty list as live",
+        rt,
+        "an empty list as live",
         all_bits(48, 200),
         Label::Live,
         &list[..0],
         69,
         32,
-    );
+    )?;
     let mut bytes = [9u8; 69];
     fill(&mut bytes);
-    read(b"after other bytes", &bytes, 0, Label::Practice);
+    read(rt, "after other bytes", &bytes, 0, Label::Practice)
 }
 
 // 200 becomes 100, and the check word is one that goes with it.
-fn not_rising() {
+fn not_rising(rt: &impl Print) -> io::Result<()> {
     let mut bytes = [9u8; 69];
     fill(&mut bytes);
     damage(&mut bytes, 15, 100);
     damage(&mut bytes, 62, 0xA7);
     damage(&mut bytes, 63, 0x0C);
-    read(b"a list that does not rise", &bytes, 0, Label::Practice);
+    read(rt, "a list that does not rise", &bytes, 0, Label::Practice)
 }
 
-fn refused_reading() {
+fn refused_reading(rt: &impl Print) -> io::Result<()> {
     let mut bytes = [9u8; 69];
     fill(&mut bytes);
-    read(b"31 bytes", &bytes, 38, Label::Practice);
-    read(b"a body cut off", &bytes, 6, Label::Practice);
-    read(b"asked for as live", &bytes, 0, Label::Live);
-    damaged(b"no CUTS", 35, 0x54);
-    damaged(b"a label that is none", 36, 0x51);
-    damaged(b"no pattern bits", 37, 0);
-    damaged(b"a byte that is to be zero", 38, 1);
-    damaged(b"a count of five", 55, 5);
-    damaged(b"a distance of 40", 59, 40);
-    damaged(b"an offset of 101", 7, 101);
-    damaged(b"a check word one off", 63, 0xA9);
-    not_rising();
+    read(rt, "31 bytes", &bytes, 38, Label::Practice)?;
+    read(rt, "a body cut off", &bytes, 6, Label::Practice)?;
+    read(rt, "asked for as live", &bytes, 0, Label::Live)?;
+    damaged(rt, "no CUTS", 35, 0x54)?;
+    damaged(rt, "a label that is none", 36, 0x51)?;
+    damaged(rt, "no pattern bits", 37, 0)?;
+    damaged(rt, "a byte that is to be zero", 38, 1)?;
+    damaged(rt, "a count of five", 55, 5)?;
+    damaged(rt, "a distance of 40", 59, 40)?;
+    damaged(rt, "an offset of 101", 7, 101)?;
+    damaged(rt, "a check word one off", 63, 0xA9)?;
+    not_rising(rt)
 }
 
-fn refused_writing() {
+fn refused_writing(rt: &impl Print) -> io::Result<()> {
     let list = [100u64, 200, 300, 400];
     write(
-        b"settings out of range",
+        rt,
+        "settings out of range",
         all_bits(47, 200),
         Label::Live,
         &list,
         69,
         0,
-    );
+    )?;
     let falling = [100u64, 99];
     write(
-        b"a falling list",
+        rt,
+        "a falling list",
         all_bits(48, 200),
         Label::Live,
         &falling,
         69,
         0,
-    );
+    )?;
     write(
-        b"room for one byte less",
+        rt,
+        "room for one byte less",
         all_bits(48, 200),
         Label::Live,
         &list,
         63,
         64,
-    );
+    )
 }
 
-pub fn run() {
-    figures();
-    refused_reading();
-    refused_writing();
+pub fn run(rt: &impl Print) -> io::Result<()> {
+    figures(rt)?;
+    refused_reading(rt)?;
+    refused_writing(rt)
 }
