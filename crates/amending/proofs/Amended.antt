@@ -1,7 +1,7 @@
 -- The amended list of a true old list is the new log cut afresh. Two facts about the two logs' next cuts carry it: what was cut at or
 -- below the change's place, the old end excepted, is cut again; and past the change the two logs' cuts lie alike. The one-pass rule supplies both.
 use Prim.Native.Nat.{ℕ, ◌+◌, ◌-◌, ◌≤◌, ◌<◌}
-use mathlib.Core.Path.{◌≡◌, sym, ap, ap₂, ◌∙◌, subst}
+use mathlib.Core.Path.{◌≡◌, refl, sym, ap, ap₂, ◌∙◌, subst}
 use mathlib.Core.Bool.{Bool}
 use mathlib.Core.List.{List, ◌∷◌, ◌++◌, map, append-nil}
 use native.Mathlib.Omega.{arith}
@@ -15,6 +15,10 @@ use Rattle.amending.specs.Told.{Recut, meeting, no_meeting}
 use Rattle.amending.proofs.Front.{Front, none_old, old_last, beyond, kept, front_is, front_joined, restart_low}
 use Rattle.amending.proofs.Told.{recut_told}
 
+-- how a run begins
+run_first : {next : ℕ → ℕ} {n c x m : ℕ} {l : List ℕ} → Run next n c (x ∷ l) m → (c < n) × (next c ≡ x) × Run next n x l m
+run_first (onward below rest) = (below, refl, rest)
+
 module _ (next next' : ℕ → ℕ) (n n' : ℕ) (edit : Edit) (ok : Rising next n) (ok' : Rising next' n')
     (inside : edit.at + edit.removed ≤ n) (ends : n + edit.added ≡ n' + edit.removed)
     (again : (x : ℕ) → x < n → next x ≤ edit.at → next x < n → next' x ≡ next x)
@@ -25,11 +29,15 @@ module _ (next next' : ℕ → ℕ) (n n' : ℕ) (edit : Edit) (ok : Rising next
   front_again none_old r = stay
   front_again old_last r = stay
   front_again (beyond h) r = stay
-  front_again (kept {f = f} h more) (onward {c = b} below (onward below' r)) =
+  front_again {b} (kept {x = x} {f = f} h more) r =
+      let first = run_first r in
+      let below : b < n = first.0 in
+      let reached : next b ≡ x = first.1 in
+      let further : x < n = (run_first first.2).0 in
+      let same : next' b ≡ x = again b below (rw reached h) (rw reached further) ∙ reached in
       let up : b < next b = ok.rises b below in
-      let same : next' b ≡ next b = again b below h below' in
-      let within : b < n' = omega arith in
-      subst (λ x. Run next' n' b (x ∷ f) (last_or x f)) same (onward within (rw same (front_again more (onward below' r))))
+      let within : b < n' = omega (arith, reached) in
+      subst (λ z. Run next' n' b (z ∷ f) (last_or z f)) same (onward within (rw same (front_again {b = x} more first.2)))
 
   -- the recut and the back are the new cuts: the back is those from the meeting on
   tail_again : {c e : ℕ} {past news r b : List ℕ} → Recut edit past n' news r b e → Run next n c past n → Run next' n' c news n' → r ++ b ≡ news

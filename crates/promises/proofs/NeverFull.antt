@@ -72,9 +72,10 @@ module _ (c : Carry) (block : List ℕ) (room : ℕ) where
   block_before = carry_rows c ++ (row LogTooLong (ltb longest (c.taken + length block)) ∷ row RoomTooShort (ltb room (room_for c.settings.minimum (length block))) ∷ [])
 
   block_fits : verdict block_before ≡ Fine → length (cuts_in c block) ≤ room
+  unfolding carry_rows
   block_fits v =
       let (judged, later) = both_clear (carry_rows c) _ v in
-      let ok = not-false (in_range c.settings) (clear SettingsOutOfRange (not (in_range c.settings)) _ (unfold carry_rows in judged)).0 in
+      let ok = not-false (in_range c.settings) (clear SettingsOutOfRange (not (in_range c.settings)) _ judged).0 in
       let b = clear LogTooLong (ltb longest (c.taken + length block)) _ later in
       let r = clear RoomTooShort (ltb room (room_for c.settings.minimum (length block))) [] b.1 in
       omega (arith, enough_room block c (ranges c.settings ok).positive, ltb-false room (room_for c.settings.minimum (length block)) r.0)
