@@ -31,6 +31,7 @@ pub fn has_trailer(mark: &[u8], bytes: &[u8]) -> bool
 }
 
 // The fields of a trailer. It is inner: the caller sees that there are 32 bytes.
+#[tactic(auto, unfolding(crate::specs::Trailer::trailer_in))]
 fn trailer_in(bytes: &[u8]) -> Trailer
     requires { 32 ≤ length bytes.now }
     ensures { result ≡ trailer_in bytes.now }
@@ -64,6 +65,7 @@ pub fn trailer_of(bytes: &[u8]) -> Trailer
 }
 
 // Whether a byte stands for a label.
+#[tactic(auto, unfolding(crate::specs::Trailer::is_label))]
 fn is_label(byte: u8) -> bool
     ensures { result ≡ is_label byte }
 {
@@ -74,6 +76,7 @@ fn is_label(byte: u8) -> bool
 }
 
 // Whether a trailer's fields are right where so many bytes stand before it.
+#[tactic(auto, unfolding(crate::specs::Trailer::trailer_right))]
 pub fn is_right(before: u64, trailer: Trailer) -> bool
     ensures { result ≡ trailer_right before trailer }
 {
