@@ -14,6 +14,7 @@ use signature::Tables;
 use terms::Settings;
 
 // Whether a mark is the marker, after its neighbour before it.
+#[tactic(auto, unfolding(crate::specs::Records::is_marker))]
 fn is_marker(minimum: u64, maximum: u64, before: u64, mark: u64) -> bool
     requires { (minimum ≤ maximum) × (before ≤ mark) }
     ensures { result ≡ is_marker minimum maximum before mark }
