@@ -53,15 +53,20 @@ fn complain(rt: &impl Eprint, why: Refusal) {
     let _ = eprintln!(rt; "cutlist: refused by number {number}");
 }
 
-// Says on standard error what failed and why, in the system's words without the number that an error's text ends in.
+// The system's words in an error's text, without the number that stands behind them.
+fn words_of(text: &str) -> &str {
+    match text.rsplit_once(" (os error ") {
+        Some((words, _)) => words,
+        None => text,
+    }
+}
+
+// Says on standard error what failed, and why.
 fn fail(rt: &impl Eprint, what: &str, error: Error) {
     let mut text = ArrayString::<320>::new();
     let _ = write!(text, "{error}");
-    let reason = match text.as_str().rsplit_once(" (os error ") {
-        Some((reason, _)) => reason,
-        None => text.as_str(),
-    };
-    let _ = eprintln!(rt; "{what}: {reason}");
+    let why = words_of(text.as_str());
+    let _ = eprintln!(rt; "{what}: {why}");
 }
 
 // Writes a text to standard output, and answers whether all of it was written; if not, standard error says why.
