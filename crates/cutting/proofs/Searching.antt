@@ -29,11 +29,6 @@ pub record Searching (log : List ℕ) (first last mask target signature at : ℕ
   pub here : signature ≡ signature_of (window log (at - 48))
   pub passed : (q : ℕ) → first ≤ q → q < at → bit_and (signature_of (window log (q - 48))) mask ≡ target → ⊥
 
-pub start : (log : List ℕ) (first last mask target s : ℕ) → first ≤ last → s ≡ signature_of (window log (first - 48))
-    → Searching log first last mask target s first
-start log first last mask target s h e =
-    record { begun = omega arith; ahead = h; here = e; passed = λ q a b. absurd (omega arith) }
-
 -- the signature one byte on
 pub rolled_on : (log : List ℕ) → Bytes log → (at : ℕ) → 48 ≤ at → at < length log → (here r : ℕ) → here ≡ signature_of (window log (at - 48))
     → r ≡ rolled degree low_part 48 here (get_or log (at - 48) 0) (get_or log at 0) → r ≡ signature_of (window log (at + 1 - 48))
