@@ -11,7 +11,7 @@ pub loop-cut-init : goal.loop-cut-init
 loop-cut-init c = start _ _ _
 
 pub loop-cut-smaller : goal.loop-cut-smaller
-loop-cut-smaller c = omega (arith, (log_rising _ _ c.requires).rises _ c.loop-cut-test.true, c.next_cut-cut.ensures)
+loop-cut-smaller c = omega (arith, (log_rising _ _ c.requires).rises c.loop-cut.cut c.loop-cut-test.true, c.next_cut-cut.ensures)
 
 pub loop-cut-preserved : goal.loop-cut-preserved
 loop-cut-preserved c = turn (log_rising _ _ c.requires) c.loop-cut.invariant c.loop-cut-test.true _ c.next_cut-cut.ensures c.put.ensures
