@@ -1,5 +1,5 @@
-//! Links the proved library, target/staticlib/libthrunglow.a at the repository's root. Where the archive is missing or older than
-//! the crates' code, `rt staticlib thrunglow` writes it first. A machine without the kit names an archive in THRUNGLOW_STATICLIB.
+//! Links the proved library, crates/thrunglow/out/libthrunglow.a. Where the archive is missing or older than the crates' code, `rt lib`
+//! in crates/thrunglow writes it first. A machine without the kit names an archive in THRUNGLOW_STATICLIB.
 
 use std::path::{Path, PathBuf};
 use std::process::{Command, Stdio};
@@ -19,7 +19,7 @@ fn main() {
 /// The repository's archive, as new as the code.
 fn archive_of_this_repository() -> PathBuf {
     let root = Path::new(env!("CARGO_MANIFEST_DIR")).join("../..").canonicalize().expect("the repository's root");
-    let archive = root.join("target/staticlib/libthrunglow.a");
+    let archive = root.join("crates/thrunglow/out/libthrunglow.a");
     let written = |path: &Path| fs::metadata(path).and_then(|about| about.modified());
     match written(&archive) {
         Ok(then) if then >= newest_code(&root) => {}
@@ -49,18 +49,18 @@ fn newest_code(root: &Path) -> SystemTime {
     newest
 }
 
-/// Runs `rt staticlib thrunglow` and dates the archive now, since `rt` leaves one that is the same as it was.
+/// Runs `rt lib` in crates/thrunglow and dates the archive now, since `rt` leaves one that is the same as it was.
 fn write_archive(root: &Path, archive: &Path, why: &str) {
-    eprintln!("thrunglow: {} {why}: running `rt staticlib thrunglow`", archive.display());
+    eprintln!("thrunglow: {} {why}: running `rt lib` in crates/thrunglow", archive.display());
     let run = Command::new("rt")
-        .args(["staticlib", "thrunglow"])
-        .current_dir(root)
+        .arg("lib")
+        .current_dir(root.join("crates/thrunglow"))
         .stdin(Stdio::null())
         .stdout(Stdio::from(io::stderr()))
         .status();
     match run {
         Ok(status) if status.success() => {}
-        Ok(status) => panic!("thrunglow: `rt staticlib thrunglow` failed ({status}); its messages are above"),
+        Ok(status) => panic!("thrunglow: `rt lib` failed ({status}); its messages are above"),
         Err(error) => panic!(
             "thrunglow: `rt` could not be started ({error}). Install the Rattle kit, or name an archive of the library in \
              THRUNGLOW_STATICLIB."

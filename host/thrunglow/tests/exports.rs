@@ -16,7 +16,7 @@ fn read(path: &str) -> String {
 fn crates() -> Vec<String> {
     let listed = read("../../crates.txt");
     let lines = listed.lines().filter(|line| !line.starts_with('#'));
-    lines.filter_map(|line| Some(line.split_once(':')?.0.to_string())).collect()
+    lines.filter_map(|line| Some(line.split_once(':')?.0.split_whitespace().next()?.to_string())).collect()
 }
 
 /// The code of a crate of the library, its files joined.

@@ -24,7 +24,7 @@ fn files(path: &str) -> Vec<String> {
 fn crates() -> Vec<String> {
     let listed = read("crates.txt");
     let lines = listed.lines().filter(|line| !line.starts_with('#'));
-    lines.filter_map(|line| Some(line.split_once(':')?.0.to_string())).collect()
+    lines.filter_map(|line| Some(line.split_once(':')?.0.split_whitespace().next()?.to_string())).collect()
 }
 
 /// The rows of the tables below a heading, cell by cell, without their heads.

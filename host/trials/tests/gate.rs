@@ -56,11 +56,38 @@ fn failures_of_the_kit_are_counted() {
 
 #[test]
 fn a_kit_that_ends_without_its_counts_has_failed() {
-    let last_lines =
-        ["", "120 passed, 0 failed\nkilled", "rt: 120 passed, 0 failed", "120 passed, 0 failed, 3 skipped"];
+    let last_lines = [
+        "",
+        "120 passed, 0 failed\nkilled",
+        "rt: 120 passed, 0 failed",
+        "120 passed, 0 failed, 3 skipped",
+        "120 passed, 0 failed (laws and the crates below alone: not the gate)",
+    ];
     for says in last_lines {
         for status in [0, 137] {
             assert_eq!(verdict(says, status, 0), ("1 passed, 1 failed".to_string(), false), "{says}, {status}");
         }
     }
+}
+
+/// What the kit says of a run that passed with such edits.
+fn with_edits(edits: &str) -> String {
+    format!(
+        "rt: ok; handles allowed: none{edits}; every proof and must-fail edit was done in this run\n120 passed, 0 failed"
+    )
+}
+
+#[test]
+fn bad_edits_are_failures() {
+    for edits in ["", "; must-fail edits: 90 refused", "; must-fail edits: 90 refused, 2 of them only by a limit"] {
+        assert_eq!(verdict(&with_edits(edits), 0, 0), ("121 passed, 0 failed".to_string(), true), "{edits}");
+    }
+    for (edits, failed) in [
+        ("; must-fail edits: 90 refused, 2 bad", 2),
+        ("; must-fail edits: 0 refused, 12 bad", 12),
+        ("; must-fail edits: 90 refused, 2 of them only by a limit, 1 bad", 1),
+    ] {
+        assert_eq!(verdict(&with_edits(edits), 0, 0), (format!("121 passed, {failed} failed"), false), "{edits}");
+    }
+    assert_eq!(verdict(&with_edits("; must-fail edits: 90 refused, 2 bad"), 1, 101).0, "120 passed, 4 failed");
 }
