@@ -1,0 +1,75 @@
+-- `amending::amend` meets its contract: each `return` stands at its row of the table, the tests above it passed.
+use Rattle.std.proofs.Common.{◌≡◌, ◌∙◌, ℕ, Bool, List, length, false, ap, refl, sym, not, arith}
+use borrow.Author.Tests.{le-ltb, lt-ltb}
+use Rattle.laws.specs.Last.{last_or}
+use Rattle.terms.specs.declared.Refusal.TheVariants.{ListFull}
+use Rattle.terms.proofs.Ranges.{ranges}
+use Rattle.terms.proofs.Verdicts.{asked, top, past, stopped, wrote}
+use Rattle.lists.specs.WellFormed.{length_of}
+use Rattle.amending.specs.declared.edits.Edit.{Edit}
+use Rattle.amending.specs.declared.Amendment.TheVariants.{Refused}
+use Rattle.amending.specs.Answers.{edit_fits, amend_rows, amend_answer, amend_leaves}
+use Rattle.amending.specs.Inner.{parts_answer}
+use Rattle.amending.proofs.amend.Goals as goal
+
+-- the edit was asked of the old list's length
+fit : {old : List ℕ} {edit : Edit} {n bytes : ℕ} {r : Bool} → n ≡ last_or 0 old → r ≡ edit_fits n edit bytes → r ≡ edit_fits (length_of old) edit bytes
+unfolding length_of
+fit {edit = edit} {bytes = bytes} last told = told ∙ ap (λ (n : ℕ). edit_fits n edit bytes) last
+
+pub returns-then-not-in_range : goal.returns-then-not-in_range
+unfolding amend_answer amend_leaves amend_rows
+returns-then-not-in_range c =
+    let both = stopped ListFull Refused _ _ _ top (asked c.in_range.ensures (ap not c.if-not-in_range.true)) refl in
+    record { answer = both.0; list = both.1 }
+
+pub returns-then-not-well_formed : goal.returns-then-not-well_formed
+unfolding amend_answer amend_leaves amend_rows
+returns-then-not-well_formed c =
+    let ranged = asked c.in_range.ensures (ap not c.if-not-in_range.false) in
+    let both = stopped ListFull Refused _ _ _ (past ranged top) (asked c.well_formed-2.ensures (ap not c.if-not-well_formed.true)) refl in
+    record { answer = both.0; list = both.1 }
+
+pub returns-then-not-fits : goal.returns-then-not-fits
+unfolding amend_answer amend_leaves amend_rows
+returns-then-not-fits c =
+    let ranged = asked c.in_range.ensures (ap not c.if-not-in_range.false) in
+    let formed = asked c.well_formed-2.ensures (ap not c.if-not-well_formed.false) in
+    let unfit = asked (fit c.last_of.ensures c.fits.ensures) (ap not c.if-not-fits.true) in
+    let both = stopped ListFull Refused _ _ _ (past ranged (past formed top)) unfit refl in
+    record { answer = both.0; list = both.1 }
+
+pub returns-then-bytes-gt-LONGEST : goal.returns-then-bytes-gt-LONGEST
+unfolding amend_answer amend_leaves amend_rows
+returns-then-bytes-gt-LONGEST c =
+    let ranged = asked c.in_range.ensures (ap not c.if-not-in_range.false) in
+    let formed = asked c.well_formed-2.ensures (ap not c.if-not-well_formed.false) in
+    let edited = asked (fit c.last_of.ensures c.fits.ensures) (ap not c.if-not-fits.false) in
+    let both = stopped ListFull Refused _ _ _ (past ranged (past formed (past edited top))) (lt-ltb _ _ c.if-bytes-gt-LONGEST.true) refl in
+    record { answer = both.0; list = both.1 }
+
+pub nonzero_div-bytes : goal.nonzero_div-bytes
+nonzero_div-bytes c = omega (arith, (ranges _ (sym c.in_range.ensures ∙ c.if-not-in_range.false)).window-fits)
+
+pub returns-then-places-bytes : goal.returns-then-places-bytes
+unfolding amend_answer amend_leaves amend_rows
+returns-then-places-bytes c =
+    let ranged = asked c.in_range.ensures (ap not c.if-not-in_range.false) in
+    let formed = asked c.well_formed-2.ensures (ap not c.if-not-well_formed.false) in
+    let edited = asked (fit c.last_of.ensures c.fits.ensures) (ap not c.if-not-fits.false) in
+    let short = le-ltb _ _ c.if-bytes-gt-LONGEST.false in
+    let both = stopped ListFull Refused _ _ _ (past ranged (past formed (past edited (past short top)))) (lt-ltb _ _ c.if-places-bytes.true) refl in
+    record { answer = both.0; list = both.1 }
+
+pub write_parts-requires-clause-log_value : goal.write_parts-requires-clause-log_value
+write_parts-requires-clause-log_value c = (sym (fit c.last_of.ensures c.fits.ensures) ∙ c.if-not-fits.false, c.if-bytes-gt-LONGEST.false)
+
+pub returns : goal.returns
+unfolding amend_answer amend_leaves amend_rows parts_answer
+returns c =
+    let ranged = asked c.in_range.ensures (ap not c.if-not-in_range.false) in
+    let formed = asked c.well_formed-2.ensures (ap not c.if-not-well_formed.false) in
+    let edited = asked (fit c.last_of.ensures c.fits.ensures) (ap not c.if-not-fits.false) in
+    let roomy = past (le-ltb _ _ c.if-bytes-gt-LONGEST.false) (past (le-ltb _ _ c.if-places-bytes.false) top) in
+    let both = wrote ListFull Refused _ _ _ (past ranged (past formed (past edited roomy))) c.write_parts.ensures.answer c.write_parts.ensures.list in
+    record { answer = both.0; list = both.1 }
