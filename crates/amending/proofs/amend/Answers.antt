@@ -1,5 +1,5 @@
 -- `amending::amend` meets its contract: each `return` stands at its row of the table, the tests above it passed.
-use Rattle.std.proofs.Common.{◌≡◌, ◌∙◌, ℕ, Bool, List, length, false, ap, refl, sym, not, arith}
+use Rattle.std.proofs.Common.{◌≡◌, ◌∙◌, ℕ, Bool, List, ap, refl, sym, not, arith}
 use borrow.Author.Tests.{le-ltb, lt-ltb}
 use Rattle.laws.specs.Last.{last_or}
 use Rattle.terms.specs.declared.Refusal.TheVariants.{ListFull}
@@ -13,9 +13,9 @@ use Rattle.amending.specs.Inner.{parts_answer}
 use Rattle.amending.proofs.amend.Goals as goal
 
 -- the edit was asked of the old list's length
-fit : {old : List ℕ} {edit : Edit} {n bytes : ℕ} {r : Bool} → n ≡ last_or 0 old → r ≡ edit_fits n edit bytes → r ≡ edit_fits (length_of old) edit bytes
+fit : (old : List ℕ) (edit : Edit) (bytes : ℕ) {n : ℕ} {r : Bool} → n ≡ last_or 0 old → r ≡ edit_fits n edit bytes → r ≡ edit_fits (length_of old) edit bytes
 unfolding length_of
-fit {edit = edit} {bytes = bytes} last told = told ∙ ap (λ (n : ℕ). edit_fits n edit bytes) last
+fit old edit bytes last told = told ∙ ap (λ (n : ℕ). edit_fits n edit bytes) last
 
 pub returns-then-not-in_range : goal.returns-then-not-in_range
 unfolding amend_answer amend_leaves amend_rows
@@ -35,7 +35,7 @@ unfolding amend_answer amend_leaves amend_rows
 returns-then-not-fits c =
     let ranged = asked c.in_range.ensures (ap not c.if-not-in_range.false) in
     let formed = asked c.well_formed-2.ensures (ap not c.if-not-well_formed.false) in
-    let unfit = asked (fit c.last_of.ensures c.fits.ensures) (ap not c.if-not-fits.true) in
+    let unfit = asked (fit _ _ _ c.last_of.ensures c.fits.ensures) (ap not c.if-not-fits.true) in
     let both = stopped ListFull Refused _ _ _ (past ranged (past formed top)) unfit refl in
     record { answer = both.0; list = both.1 }
 
@@ -44,7 +44,7 @@ unfolding amend_answer amend_leaves amend_rows
 returns-then-bytes-gt-LONGEST c =
     let ranged = asked c.in_range.ensures (ap not c.if-not-in_range.false) in
     let formed = asked c.well_formed-2.ensures (ap not c.if-not-well_formed.false) in
-    let edited = asked (fit c.last_of.ensures c.fits.ensures) (ap not c.if-not-fits.false) in
+    let edited = asked (fit _ _ _ c.last_of.ensures c.fits.ensures) (ap not c.if-not-fits.false) in
     let both = stopped ListFull Refused _ _ _ (past ranged (past formed (past edited top))) (lt-ltb _ _ c.if-bytes-gt-LONGEST.true) refl in
     record { answer = both.0; list = both.1 }
 
@@ -56,20 +56,20 @@ unfolding amend_answer amend_leaves amend_rows
 returns-then-places-bytes c =
     let ranged = asked c.in_range.ensures (ap not c.if-not-in_range.false) in
     let formed = asked c.well_formed-2.ensures (ap not c.if-not-well_formed.false) in
-    let edited = asked (fit c.last_of.ensures c.fits.ensures) (ap not c.if-not-fits.false) in
+    let edited = asked (fit _ _ _ c.last_of.ensures c.fits.ensures) (ap not c.if-not-fits.false) in
     let short = le-ltb _ _ c.if-bytes-gt-LONGEST.false in
     let both = stopped ListFull Refused _ _ _ (past ranged (past formed (past edited (past short top)))) (lt-ltb _ _ c.if-places-bytes.true) refl in
     record { answer = both.0; list = both.1 }
 
 pub write_parts-requires-clause-log_value : goal.write_parts-requires-clause-log_value
-write_parts-requires-clause-log_value c = (sym (fit c.last_of.ensures c.fits.ensures) ∙ c.if-not-fits.false, c.if-bytes-gt-LONGEST.false)
+write_parts-requires-clause-log_value c = (sym (fit _ _ _ c.last_of.ensures c.fits.ensures) ∙ c.if-not-fits.false, c.if-bytes-gt-LONGEST.false)
 
 pub returns : goal.returns
 unfolding amend_answer amend_leaves amend_rows parts_answer
 returns c =
     let ranged = asked c.in_range.ensures (ap not c.if-not-in_range.false) in
     let formed = asked c.well_formed-2.ensures (ap not c.if-not-well_formed.false) in
-    let edited = asked (fit c.last_of.ensures c.fits.ensures) (ap not c.if-not-fits.false) in
+    let edited = asked (fit _ _ _ c.last_of.ensures c.fits.ensures) (ap not c.if-not-fits.false) in
     let roomy = past (le-ltb _ _ c.if-bytes-gt-LONGEST.false) (past (le-ltb _ _ c.if-places-bytes.false) top) in
     let both = wrote ListFull Refused _ _ _ (past ranged (past formed (past edited roomy))) c.write_parts.ensures.answer c.write_parts.ensures.list in
     record { answer = both.0; list = both.1 }

@@ -1,5 +1,5 @@
 -- `amending::write_parts` meets its contract: proofs/Written.antt says what the three calls leave.
-use Rattle.std.proofs.Common.{◌≡◌, ℕ, ◌≤◌, List, length, sym, arith, length-take}
+use Rattle.std.proofs.Common.{◌≡◌, ℕ, ◌≤◌, List, length, sym, arith}
 use lib.Seq.{length-take-le}
 use Rattle.laws.proofs.Slices.{rest_from}
 use Rattle.amending.specs.Parts.{front_count}
@@ -62,15 +62,15 @@ overflow_add-at-2 c =
 pub returns-then-at-left : goal.returns-then-at-left
 returns-then-at-left c =
     let done =
-        parts_done _ _ _ _ c.front_count-kept.ensures c.put_moved.ensures c.last_of-restart.ensures (rw rest_from at c.recut-made.ensures)
-        (rw (rest_from, rest_from) at c.put_moved-2.ensures) in
+    parts_done _ _ _ _ c.front_count-kept.ensures c.put_moved.ensures c.last_of-restart.ensures (rw rest_from at c.recut-made.ensures)
+    (rw (rest_from, rest_from) at c.put_moved-2.ensures) in
     let full = parts_full done (rw (rest_from, rest_from) at c.if-at-left.true) in
     record { answer = full.0; list = full.1 }
 
 pub returns : goal.returns
 returns c =
     let done =
-        parts_done _ _ _ _ c.front_count-kept.ensures c.put_moved.ensures c.last_of-restart.ensures (rw rest_from at c.recut-made.ensures)
-        (rw (rest_from, rest_from) at c.put_moved-2.ensures) in
+    parts_done _ _ _ _ c.front_count-kept.ensures c.put_moved.ensures c.last_of-restart.ensures (rw rest_from at c.recut-made.ensures)
+    (rw (rest_from, rest_from) at c.put_moved-2.ensures) in
     let fit = parts_fit done (rw (rest_from, rest_from) at c.if-at-left.false) in
     rw (rest_from, rest_from) (record { answer = fit.0; list = fit.1 })
