@@ -5,7 +5,7 @@ use mathlib.Core.Bool.{true, false}
 use mathlib.Core.List.{List, [], ◌∷◌}
 use native.Mathlib.Omega.{arith}
 use lib.ListN.{length, set}
-use lib.Seq.{sets, length-sets}
+use lib.Seq.{sets}
 use Rattle.laws.proofs.Cases.{by_lt}
 use Rattle.rule.specs.Rule.{Unmarked, cuts_up_to}
 use Rattle.signature.specs.Signatures.{signature_of, window}
@@ -121,9 +121,6 @@ module _ {s : Settings} {stretch : List ℕ} {base : ℕ} {first : Sought} {list
         let u = one_more (base + next.at) (rest-is _ (ap (λ (r : Record). r.offsets) after) w.way) (omega (arith, k.begun)) e in
         let done = all_made u refl p in
         record { counted = done.counted; marked = sym (w.marker ∙ ap (λ (r : Record). r.marker) after); kept = done.kept }
-
-pub records-long : {r : Record} {before : ℕ} {after : Recorded} {list₀ list : List ℕ} → Records r before after list₀ list → length list ≡ length list₀
-records-long {r} {before} {list₀ = list₀} w = ap length w.kept ∙ length-sets list₀ before r.offsets
 
 -- the first mark of a stretch past its lead-in
 module _ (s : Settings) (stretch : List ℕ) (base : ℕ) (long : 48 ≤ length stretch) (first : Sought) (k : Seek s stretch 48 (length stretch) first) (list : List ℕ) where

@@ -1,5 +1,5 @@
 -- `board_record::record_segment` meets its contract: the stretch it lends has the log's marks.
-use Rattle.std.proofs.Common.{◌*◌, ◌<◌, length, arith}
+use Rattle.std.proofs.Common.{length, arith}
 use Rattle.terms.proofs.Ranges.{ranges}
 use Rattle.board_bays.proofs.Ranges.{begins_below}
 use Rattle.board_record.proofs.Parts.{stretch_long, stretch_fine, from_zero, from_stretch, lead}

@@ -30,11 +30,11 @@ is_marker-requires c = ((ranges _ c.requires.settings_value).ordered, omega (ari
 
 pub record_cuts-all-requires-clause-count_le_cut : goal.record_cuts-all-requires-clause-count_le_cut
 record_cuts-all-requires-clause-count_le_cut c = (
-      omega (arith, c.loop-spot.invariant.way.behind, c.next_mark-next.ensures.begun),
-      omega arith,
-      omega (arith, c.next_mark-next.ensures.inside),
-      c.requires.le_at.3,
-    )
+  omega (arith, c.loop-spot.invariant.way.behind, c.next_mark-next.ensures.begun),
+  omega arith,
+  omega (arith, c.next_mark-next.ensures.inside),
+  c.requires.le_at.3,
+)
 
 pub returns-then-is_marker : goal.returns-then-is_marker
 returns-then-is_marker c =

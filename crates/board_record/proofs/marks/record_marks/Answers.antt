@@ -12,7 +12,7 @@ pub seek-first-requires-clause-bits_bound : goal.seek-first-requires-clause-bits
 seek-first-requires-clause-bits_bound c = (ranges _ c.requires.settings_value).few_bits
 
 pub seek-first-requires-clause-le_first : goal.seek-first-requires-clause-le_first
-seek-first-requires-clause-le_first c = (omega arith, c.requires.in_bounds.0, omega arith, c.of_window-here.ensures)
+seek-first-requires-clause-le_first c = (omega arith, omega (arith, c.requires.in_bounds.0), omega arith, c.of_window-here.ensures)
 
 pub returns-then-not-first : goal.returns-then-not-first
 returns-then-not-first c = first-none _ _ _ c.requires.in_bounds.0 _ c.seek-first.ensures _ (not-true _ c.if-not-first.true)
