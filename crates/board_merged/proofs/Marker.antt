@@ -1,6 +1,6 @@
 -- The marker lemma: a mark whose neighbour before it is neither too near nor too far is a cut, wherever the cuts before it lie.
 -- Nothing of segments is used but that the neighbour is known. So every record's marker is a cut of its log.
-use Prim.Native.Nat.{ℕ, ◌+◌, ◌-◌, ◌≤◌, ◌<◌}
+use Prim.Native.Nat.{ℕ, ◌+◌, ◌≤◌, ◌<◌}
 use mathlib.Core.Path.{◌≡◌, refl, sym, ◌∙◌}
 use mathlib.Core.Bool.{Bool, true}
 use mathlib.Core.List.{List, [], ◌∷◌, ◌++◌}
