@@ -40,9 +40,6 @@ module _ (bytes : List ℕ) where
     there present = let halves = both_true present in (leb-true _ _ halves.0, halves.1)
 
   -- the last 32 bytes, as they are lent
-  pub last_long : 32 ≤ length bytes → 32 ≤ length (take (length bytes - (length bytes - 32)) (drop (length bytes - 32) bytes))
-  last_long h = rw (rest_from bytes (length bytes - 32), length-drop) (omega arith)
-
   pub trailer_lent : {t : Trailer} → t ≡ trailer_in (take (length bytes - (length bytes - 32)) (drop (length bytes - 32) bytes)) → t ≡ trailer_of bytes
   unfolding trailer_of trailer_bytes
   trailer_lent e = e ∙ rw (rest_from bytes (length bytes - 32))

@@ -53,7 +53,7 @@ pub returns-then-list-count : goal.returns-then-list-count
 unfolding read_sheet_answer read_sheet_leaves
 returns-then-list-count c =
     let own : (trailer_of c.args.bytes.now).label ≡ byte_of c.args.asked =
-    labelled c.args.bytes.now (sym c.in-Fine.ensures) c.trailer_of-trailer.ensures ∙ c.if-label-wanted.false ∙ c.byte-wanted.ensures in
+    cc (labelled c.args.bytes.now (sym c.in-Fine.ensures) c.trailer_of-trailer.ensures) in
     let short : length c.args.list.now < (trailer_of c.args.bytes.now).count =
     omega (arith, counted c.args.bytes.now (sym c.in-Fine.ensures) c.trailer_of-trailer.ensures, c.if-list-count.true) in
     let refused = room_refuses c.args.bytes.now c.args.asked (length c.args.list.now) (sym c.in-Fine.ensures) own short in
@@ -72,7 +72,7 @@ pub returns : goal.returns
 unfolding read_sheet_answer read_sheet_leaves list_in
 returns c =
     let own : (trailer_of c.args.bytes.now).label ≡ byte_of c.args.asked =
-    labelled c.args.bytes.now (sym c.in-Fine.ensures) c.trailer_of-trailer.ensures ∙ c.if-label-wanted.false ∙ c.byte-wanted.ensures in
+    cc (labelled c.args.bytes.now (sym c.in-Fine.ensures) c.trailer_of-trailer.ensures) in
     let fits : (trailer_of c.args.bytes.now).count ≤ length c.args.list.now =
     omega (arith, counted c.args.bytes.now (sym c.in-Fine.ensures) c.trailer_of-trailer.ensures, c.if-list-count.false) in
     let none = none_refuses c.args.bytes.now c.args.asked (length c.args.list.now) (sym c.in-Fine.ensures) own fits in
