@@ -4,7 +4,7 @@ pub mod Split
 pub mod Front
 -- the test of an edit
 pub mod Fitting
--- lists read and written place by place
+-- lists read place by place
 pub mod Places
 -- looking for the meeting in a rising list
 pub mod Looking

@@ -1,14 +1,14 @@
--- Lists read place by place: the entries before one that passes a test, the last entry, entries moved and written.
+-- Lists read place by place: the entries before one that passes a test, and the last entry.
 use Prim.Native.Nat.{ℕ, suc, ◌+◌, ◌-◌, ◌≤◌, ◌<◌}
 use mathlib.Core.Path.{◌≡◌, refl}
 use mathlib.Core.Bool.{Bool, true, false}
-use mathlib.Core.List.{List, [], ◌∷◌, map}
+use mathlib.Core.List.{List, [], ◌∷◌}
 use native.Mathlib.Omega.{arith}
 use native.Mathlib.Numerals.{add-one}
-use lib.ListN.{length, get_or, set, drop, drop_of_length-le}
-use lib.Seq.{drop-cons, sets}
+use lib.ListN.{length, get_or, drop, drop_of_length-le}
+use lib.Seq.{drop-cons}
 use Rattle.laws.specs.Last.{last_or}
-use Rattle.amending.specs.Parts.{until, shifted}
+use Rattle.amending.specs.Parts.{until}
 
 -- climbing while a test fails: the places passed and those still to pass make up the total
 module _ (test : ℕ → Bool) (l : List ℕ) (i : ℕ) where
@@ -36,14 +36,3 @@ last_at c (x ∷ []) h = refl
 last_at c (x ∷ y ∷ l) h =
     let place : length (x ∷ y ∷ l) - 1 ≡ suc (length (y ∷ l) - 1) = omega arith in
     rw place (last_at x (y ∷ l) (omega arith))
-
--- one entry more is moved and written
-pub put_on : (removed added : ℕ) (part list : List ℕ) (at i : ℕ) → i < length part
-    → sets list (at + i) (map (shifted removed added) (drop i part))
-    ≡ sets (set list (at + i) (shifted removed added (get_or part i 0))) (at + (i + 1)) (map (shifted removed added) (drop (i + 1) part))
-put_on removed added part list at i h =
-    let next : suc (at + i) ≡ at + (i + 1) = omega arith in
-    rw (drop-cons part i 0 h, ← next, add-one)
-
-pub put_end : (removed added : ℕ) (part list : List ℕ) (at i : ℕ) → length part ≤ i → sets list (at + i) (map (shifted removed added) (drop i part)) ≡ list
-put_end removed added part list at i h = rw (drop_of_length-le part h)

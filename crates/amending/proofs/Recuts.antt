@@ -1,12 +1,11 @@
 -- The recut, cut by cut: what is known after each, and what that says where it stops.
 use Prim.Native.Nat.{ℕ, suc, ◌+◌, ◌-◌, ◌≤◌, ◌<◌, min}
-use mathlib.Core.Path.{◌≡◌, refl, sym, ap, ◌∙◌}
+use mathlib.Core.Path.{◌≡◌, sym, ap, ◌∙◌}
 use mathlib.Core.Bool.{Bool, true, false}
 use mathlib.Core.List.{List, [], ◌∷◌, map}
-use native.Mathlib.Nat.{add-zero}
 use native.Mathlib.Omega.{arith}
 use lib.ListN.{length, get_or, drop, set, length-drop}
-use lib.Seq.{sets, length-sets, drop-length, drop-drop}
+use lib.Seq.{sets, drop-length, drop-drop}
 use Rattle.rule.specs.Rule.{chain}
 use Rattle.rule.proofs.Chain.{Rising, opened, at-end}
 use Rattle.amending.specs.declared.edits.Edit.{Edit}
@@ -30,25 +29,8 @@ pub record Recuts (next : ℕ → ℕ) (n : ℕ) (edit : Edit) (past : List ℕ)
   pub within : passed ≤ length past
   pub behind : (t : ℕ) → cut < t → from (was_at edit t) past ≡ from (was_at edit t) (drop passed past)
 
-pub recuts_none : (next : ℕ → ℕ) (n : ℕ) (edit : Edit) (past : List ℕ) (kept : ℕ) (list : List ℕ) (start : ℕ)
-    → Recuts next n edit past kept list start list start 0 0
-recuts_none next n edit past kept list start =
-    record {
-      counted = omega arith;
-      written = ap (λ k. sets list k (until (meets edit past) (after next n start))) (sym (add-zero kept));
-      onward = refl;
-      few = omega arith;
-      within = omega arith;
-      behind = λ t up. refl;
-    }
-
 module _ {next : ℕ → ℕ} {n : ℕ} {edit : Edit} {past : List ℕ} {kept : ℕ} {list₀ : List ℕ} {start : ℕ} {list : List ℕ} {cut passed count : ℕ}
     (r : Recuts next n edit past kept list₀ start list cut passed count) where
-  pub same_room : length list ≡ length list₀
-  same_room =
-      sym (length-sets list (kept + count) (until (meets edit past) (after next n cut))) ∙ ap length (sym r.written)
-      ∙ length-sets list₀ kept (until (meets edit past) (after next n start))
-
   -- no cut is left up to the meeting
   settled : (p : ℕ) → p ≤ length past → until (meets edit past) (after next n cut) ≡ []
       → back_from edit past (from (meets edit past) (after next n cut)) ≡ map (moved edit) (drop p past)

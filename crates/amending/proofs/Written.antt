@@ -5,8 +5,8 @@ use mathlib.Core.Bool.{true}
 use mathlib.Core.List.{List, [], ◌∷◌, ◌++◌, map}
 use native.Mathlib.Nat.{zero-add}
 use native.Mathlib.Omega.{arith}
-use lib.ListN.{length, get_or, take, drop, length-append, length-map, length-take}
-use lib.Seq.{sets, length-sets, length-take-le, get_or-take, get_or-drop}
+use lib.ListN.{length, get_or, take, drop, length-append, length-map}
+use lib.Seq.{sets, length-sets, length-take-le, get_or-drop}
 use borrow.Author.Tests.{le-ltb, lt-ltb}
 use Rattle.laws.specs.Last.{last_or}
 use Rattle.laws.proofs.Sets.{sets_joined, sets_written}
@@ -46,12 +46,7 @@ sound lo hi old edit bytes ok fits short =
     }
 
 module _ {old : List ℕ} {edit : Edit} (fine : Sound old edit) where
-  -- the front is copied as it is; the back can be moved
-  pub front_movable : (kept : ℕ) → Movable 0 0 (take kept old)
-  front_movable kept i h =
-      let below : i < kept = omega (arith, length-take kept old) in
-      rw (get_or-take kept old i 0 below) (omega (arith, fine.low i))
-
+  -- the back can be moved
   pub back_movable : (kept passed : ℕ) → ((i : ℕ) → i < length (drop passed (drop kept old)) → edit.removed ≤ get_or (drop passed (drop kept old)) i 0 + edit.added)
       → Movable edit.removed edit.added (drop passed (drop kept old))
   back_movable kept passed high i h =
