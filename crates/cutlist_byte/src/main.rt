@@ -2,5 +2,5 @@
 #![tactic(auto)]
 
 fn main(rt: HostRuntime) {
-    cutlist_program::list_input(&rt);
+    cutlist_program::list_input(&rt, &mut rt.stdin());
 }

@@ -261,14 +261,13 @@ fn read_all(rt: &(impl Print + Eprint), input: &mut impl Read, start: Log) {
     }
 }
 
-// Cuts standard input to its end.
-pub fn list_input(rt: &(impl Input + Print + Eprint)) {
+// Cuts an input to its end.
+pub fn list_input(rt: &(impl Print + Eprint), input: &mut impl Read) {
     let outcome = pass::fresh(terms::HOUSE);
     let carry = outcome.carry;
-    let mut input = rt.reader();
     read_all(
         rt,
-        &mut input,
+        input,
         Log {
             carry: carry,
             last: 0,
