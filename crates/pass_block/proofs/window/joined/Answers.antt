@@ -1,23 +1,17 @@
--- `pass_block::window::joined` meets its contract: what is written stands side by side.
-use borrow.Author.Rules.{rules}
-use Prim.Native.Nat.{ℕ, zero, suc, ◌-◌, min}
-use mathlib.Core.Path.{◌≡◌, sym, ap, ap₂, ◌∙◌}
-use mathlib.Core.List.{List, ◌++◌, append_assoc}
+-- What is written stands side by side.
+use Rattle.std.proofs.Common.{◌≡◌, ℕ, zero, suc, ◌-◌, ◌∙◌, min, sym, ap, List, ◌++◌, length, take, drop, replicate, rules, arith}
+use mathlib.Core.List.{append_assoc}
+use mathlib.Core.Path.{ap₂}
 use native.Mathlib.Nat.{sub-zero}
-use native.Mathlib.Omega.{arith}
-use lib.ListN.{length, take, drop, replicate, length-append}
+use lib.ListN.{length-append}
 use lib.Seq.{take_all, length-take-le}
 use Rattle.laws.specs.Over.{over, over_from}
 use Rattle.laws.proofs.Cases.{by_lt}
 use Rattle.laws.proofs.Writing.{over_from_zero, over_from_over}
 use Rattle.pass_block.specs.Taking.{head_of}
-use Rattle.pass_block.proofs.window.joined.Statement.{statement}
-use Rattle.pass_block.proofs.window.joined.Tie as tie
+use Rattle.pass_block.proofs.window.joined.Goals as goal
 
--- the window has its 48 bytes, and the part of the block as many as are asked for
-whole : (c : tie.Start) → length c.args.t1 ≡ 48
-whole c = search rules
-
+-- the part of the block has as many bytes as are asked for
 part : (block : List ℕ) (n : ℕ) → n ≡ min 48 (length block) → length (take n block) ≡ n
 part block n e = length-take-le n block (omega arith)
 
@@ -46,35 +40,5 @@ both_is w block first both count long is e f =
     ∙ append_assoc w (take count block) (replicate (48 - length block) 0)
     ∙ ap (λ l. w ++ (l ++ replicate (48 - length block) 0)) (first-bytes block count is)
 
--- the window is written; how many bytes of the block there are; the entry
-abbrev counted : tie.After-put-bytes → tie.After-smaller
-counted c = c.before.before.before
-
-abbrev entry : tie.After-put-bytes → tie.Start
-entry c = (counted c).before.before
-
-slice-aggregate-put-bytes-3 : tie.Need-slice-aggregate-put-bytes-3
-slice-aggregate-put-bytes-3 c = sym (part _ _ (counted c.before.before).smaller.ensures)
-
-put-bytes-requires-2 : tie.Need-put-bytes-requires-2
-put-bytes-requires-2 c κs =
-    let at = c.before.before.before in
-    omega (arith, at.put-bytes.auto.1.1.0, part (entry at).args.block.now _ (counted at).smaller.ensures)
-
-returns : tie.Need-returns
-returns c =
-    let at = c.before.before.before.before.before in
-    both_is (entry at).args.t1 (entry at).args.block.now _ _ _ (whole (entry at)) (counted at).smaller.ensures at.put-bytes.ensures c.before.put-bytes2.ensures
-
-pub joined-spec : {M : Type 1} → statement M
-joined-spec =
-    tie.close
-    (tie.spec
-    (λ c κs. search rules)
-    (λ c. search rules)
-    (λ c. search rules)
-    (λ c κs. search rules)
-    slice-aggregate-put-bytes-3
-    (λ c. search rules)
-    put-bytes-requires-2
-    returns)
+pub returns : goal.returns
+returns c = both_is c.args.window c.args.block.now _ _ _ (search rules) c.smaller-count.ensures c.put_bytes.ensures c.put_bytes-2.ensures
