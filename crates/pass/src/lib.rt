@@ -9,6 +9,7 @@ use pass_carry::{Carry, Outcome};
 use terms::{Answer, Refusal, Settings, Verdict};
 
 // A carry that has taken nothing.
+#[tactic(auto, unfolding(pass_carry::specs::Carries::fresh_carry))]
 fn untouched(settings: Settings) -> Carry
     ensures { result ≡ fresh_carry settings }
 {
