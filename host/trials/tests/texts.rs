@@ -7,7 +7,7 @@ use thrunglow::Settings;
 use trials::edits::replaced;
 use trials::ways::{amended, in_blocks, in_segments, whole};
 
-/// The files with code, proofs or text below a folder, in the order of their names.
+/// The files with code, proofs or text below a folder, in the order of their names, without what was built there.
 fn files(folder: &Path) -> Vec<Vec<u8>> {
     let mut paths: Vec<_> =
         fs::read_dir(folder).expect("a folder").map(|found| found.expect("a file").path()).collect();
@@ -17,6 +17,7 @@ fn files(folder: &Path) -> Vec<Vec<u8>> {
     paths
         .iter()
         .flat_map(|path| match path {
+            built if built.ends_with("out") => Vec::new(),
             folder if folder.is_dir() => files(folder),
             file if kept(file) => vec![fs::read(file).expect("a file that can be read")],
             _ => Vec::new(),
