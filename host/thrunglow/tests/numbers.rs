@@ -33,7 +33,7 @@ fn named(lines: &str, before: &str, between: &str) -> BTreeMap<u32, String> {
 
 /// The numbers as they are defined.
 fn defined() -> BTreeMap<u32, String> {
-    let names = named(&read("crates/terms/specs/Refusals.antt"), "numberOf ", " = ");
+    let names = named(&read("crates/terms/specs/Refusals.antt"), "number_of ", " = ");
     assert!(names.len() >= 17, "{names:?}");
     names
 }
