@@ -2,30 +2,30 @@
 use std::io;
 use terms::Answer;
 
-pub fn text(rt: &impl Print, what: &str) -> io::Result<()> {
-    rt.print(what)
+pub fn text(rt: &impl Print, what: &[u8]) -> io::Result<()> {
+    rt.write_all(what)
 }
 
 pub fn number(rt: &impl Print, n: u64) -> io::Result<()> {
     rt.print(n)
 }
 
-pub fn answer(rt: &impl Print, what: &str, answer: Answer) -> io::Result<()> {
+pub fn answer(rt: &impl Print, what: &[u8], answer: Answer) -> io::Result<()> {
     text(rt, what)?;
     match answer {
         Answer::Wrote(count) => {
-            text(rt, ": wrote ")?;
+            text(rt, b": wrote ")?;
             number(rt, count)
         }
         Answer::Refused(why) => {
-            text(rt, ": refused ")?;
+            text(rt, b": refused ")?;
             number(rt, why.number() as u64)
         }
     }
 }
 
 pub fn after_space(rt: &impl Print, n: u64) -> io::Result<()> {
-    text(rt, " ")?;
+    text(rt, b" ")?;
     number(rt, n)
 }
 
@@ -39,7 +39,7 @@ fn each(rt: &impl Print, list: &[u64]) -> io::Result<()> {
 
 pub fn entries(rt: &impl Print, list: &[u64]) -> io::Result<()> {
     each(rt, list)?;
-    text(rt, "\n")
+    text(rt, b"\n")
 }
 
 fn hex_digits(rt: &impl Print, byte: u8) -> io::Result<()> {
@@ -60,5 +60,5 @@ pub fn hex(rt: &impl Print, bytes: &[u8], count: usize) -> io::Result<()> {
         return Ok(());
     }
     each_hex(rt, bytes, count)?;
-    text(rt, "\n")
+    text(rt, b"\n")
 }

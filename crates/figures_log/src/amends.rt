@@ -7,18 +7,18 @@ use figures::logs::all_bits;
 use figures::show;
 use std::io;
 
-fn counts(rt: &impl Print, what: &str, amendment: Amendment) -> io::Result<()> {
+fn counts(rt: &impl Print, what: &[u8], amendment: Amendment) -> io::Result<()> {
     show::text(rt, what)?;
     match amendment {
         Amendment::Amended { front, recut, back } => {
-            show::text(rt, ": counts")?;
+            show::text(rt, b": counts")?;
             show::after_space(rt, front)?;
             show::after_space(rt, recut)?;
             show::after_space(rt, back)?;
-            show::text(rt, " list")?;
+            show::text(rt, b" list")?;
         }
         Amendment::Refused(why) => {
-            show::text(rt, ": refused ")?;
+            show::text(rt, b": refused ")?;
             show::number(rt, why.number() as u64)?;
         }
     }
@@ -28,7 +28,7 @@ fn counts(rt: &impl Print, what: &str, amendment: Amendment) -> io::Result<()> {
 // The log is the first of the bytes lent.
 fn edit(
     rt: &impl Print,
-    what: &str,
+    what: &[u8],
     old: &[u64],
     s: u64,
     d: u64,
@@ -61,7 +61,7 @@ fn edit(
 // Amends the list of log C, lent with room for 11 entries that start as sevens.
 fn edit_c(
     rt: &impl Print,
-    what: &str,
+    what: &[u8],
     s: u64,
     d: u64,
     e: u64,
@@ -88,33 +88,33 @@ fn ones(a: usize, b: usize, c: usize, d: usize) -> [u8; 500]
 
 fn figures(rt: &impl Print) -> io::Result<()> {
     let put_in = ones(99, 150, 200, 300);
-    edit_c(rt, "one byte 1 put in at 150", 150, 0, 1, &put_in, 401)?;
+    edit_c(rt, b"one byte 1 put in at 150", 150, 0, 1, &put_in, 401)?;
     let c = ones(99, 199, 299, 299);
-    edit_c(rt, "ten zeros appended", 400, 0, 10, &c, 410)?;
+    edit_c(rt, b"ten zeros appended", 400, 0, 10, &c, 410)?;
     let twice = ones(99, 199, 299, 399);
     edit_c(
         rt,
-        "a copy of the first piece put in at 100",
+        b"a copy of the first piece put in at 100",
         100,
         0,
         100,
         &twice,
         500,
     )?;
-    edit_c(rt, "nothing replaced at 150", 150, 0, 0, &c, 400)?;
-    edit_c(rt, "nothing replaced at the end", 400, 0, 0, &c, 400)?;
-    edit_c(rt, "the last piece taken away", 300, 100, 0, &c, 300)?;
-    edit_c(rt, "everything taken away", 0, 400, 0, &c, 0)
+    edit_c(rt, b"nothing replaced at 150", 150, 0, 0, &c, 400)?;
+    edit_c(rt, b"nothing replaced at the end", 400, 0, 0, &c, 400)?;
+    edit_c(rt, b"the last piece taken away", 300, 100, 0, &c, 300)?;
+    edit_c(rt, b"everything taken away", 0, 400, 0, &c, 0)
 }
 
 fn edits_refused(rt: &impl Print) -> io::Result<()> {
     let c = ones(99, 199, 299, 299);
-    edit_c(rt, "s past the old length", 401, 0, 0, &c, 400)?;
-    edit_c(rt, "d past what follows s", 350, 51, 0, &c, 349)?;
-    edit_c(rt, "another length", 350, 0, 1, &c, 400)?;
+    edit_c(rt, b"s past the old length", 401, 0, 0, &c, 400)?;
+    edit_c(rt, b"d past what follows s", 350, 51, 0, &c, 349)?;
+    edit_c(rt, b"another length", 350, 0, 1, &c, 400)?;
     edit_c(
         rt,
-        "a length that would wrap",
+        b"a length that would wrap",
         0,
         0,
         18_446_744_073_709_551_216,
@@ -129,7 +129,7 @@ fn rooms_and_lists(rt: &impl Print) -> io::Result<()> {
     let mut room = [7u64; 10];
     edit(
         rt,
-        "room for one less",
+        b"room for one less",
         &old,
         400,
         0,
@@ -140,7 +140,7 @@ fn rooms_and_lists(rt: &impl Print) -> io::Result<()> {
     )?;
     edit(
         rt,
-        "room for one more",
+        b"room for one more",
         &old,
         400,
         0,
@@ -153,7 +153,7 @@ fn rooms_and_lists(rt: &impl Print) -> io::Result<()> {
     let short = [10u64, 60];
     edit(
         rt,
-        "a short step before the last",
+        b"a short step before the last",
         &short,
         0,
         0,
@@ -164,7 +164,7 @@ fn rooms_and_lists(rt: &impl Print) -> io::Result<()> {
     )?;
     edit(
         rt,
-        "from an empty log",
+        b"from an empty log",
         &short[..0],
         0,
         0,
@@ -182,7 +182,7 @@ fn other_lists(rt: &impl Print) -> io::Result<()> {
     let mut list = [7u64; 3];
     edit(
         rt,
-        "ten zeros appended to a mark",
+        b"ten zeros appended to a mark",
         &ended,
         100,
         0,
@@ -195,7 +195,7 @@ fn other_lists(rt: &impl Print) -> io::Result<()> {
     let mut room = [7u64; 9];
     edit(
         rt,
-        "from a list that is not the log's",
+        b"from a list that is not the log's",
         &untrue,
         70,
         0,

@@ -78,21 +78,21 @@ fn finish(pass: Pass, list: &mut [u64]) -> u64 {
     std::num::wrapping_add_u64(from, count_of(answer))
 }
 
-fn cut(rt: &impl Print, what: &str, settings: Settings, log: &[u8], size: usize) -> io::Result<()>
+fn cut(rt: &impl Print, what: &[u8], settings: Settings, log: &[u8], size: usize) -> io::Result<()>
     requires { 0 < size }
 {
     let mut list = [7u64; 10];
     let pass = take_all(settings, log, size, &mut list);
     let written = finish(pass, &mut list);
     show::text(rt, what)?;
-    show::text(rt, " in blocks of ")?;
+    show::text(rt, b" in blocks of ")?;
     show::number(rt, size as u64)?;
-    show::answer(rt, "", Answer::Wrote(written))?;
+    show::answer(rt, b"", Answer::Wrote(written))?;
     show::entries(rt, &list)
 }
 
 // Short blocks, those about the window's length, and the whole log.
-fn sizes(rt: &impl Print, what: &str, settings: Settings, log: &[u8]) -> io::Result<()> {
+fn sizes(rt: &impl Print, what: &[u8], settings: Settings, log: &[u8]) -> io::Result<()> {
     cut(rt, what, settings, log, 7)?;
     cut(rt, what, settings, log, 47)?;
     cut(rt, what, settings, log, 48)?;
@@ -103,25 +103,25 @@ fn sizes(rt: &impl Print, what: &str, settings: Settings, log: &[u8]) -> io::Res
 fn cut_a(rt: &impl Print) -> io::Result<()> {
     let mut a = [0u8; 60];
     a[47] = 1;
-    sizes(rt, "A at 48/96, target 1", eight_bits(1, 48, 96), &a)?;
-    sizes(rt, "A at 48/96, target 18", eight_bits(18, 48, 96), &a)?;
-    sizes(rt, "A at 53/96, target 18", eight_bits(18, 53, 96), &a)?;
-    sizes(rt, "A at 48/51, target 18", eight_bits(18, 48, 51), &a)?;
-    cut(rt, "A at 48/51, target 18", eight_bits(18, 48, 51), &a, 1)
+    sizes(rt, b"A at 48/96, target 1", eight_bits(1, 48, 96), &a)?;
+    sizes(rt, b"A at 48/96, target 18", eight_bits(18, 48, 96), &a)?;
+    sizes(rt, b"A at 53/96, target 18", eight_bits(18, 53, 96), &a)?;
+    sizes(rt, b"A at 48/51, target 18", eight_bits(18, 48, 51), &a)?;
+    cut(rt, b"A at 48/51, target 18", eight_bits(18, 48, 51), &a, 1)
 }
 
 fn cut_c(rt: &impl Print) -> io::Result<()> {
     let c = logs::c();
-    sizes(rt, "C at 48/200", all_bits(48, 200), &c)?;
-    sizes(rt, "C at 101/202", all_bits(101, 202), &c)?;
-    sizes(rt, "C at 48/99", all_bits(48, 99), &c)?;
-    cut(rt, "C at 48/99", all_bits(48, 99), &c, 1)
+    sizes(rt, b"C at 48/200", all_bits(48, 200), &c)?;
+    sizes(rt, b"C at 101/202", all_bits(101, 202), &c)?;
+    sizes(rt, b"C at 48/99", all_bits(48, 99), &c)?;
+    cut(rt, b"C at 48/99", all_bits(48, 99), &c, 1)
 }
 
 pub fn run(rt: &impl Print) -> io::Result<()> {
     cut_a(rt)?;
     cut_c(rt)?;
     let byte = [0u8; 1];
-    sizes(rt, "no bytes", all_bits(48, 200), &byte[..0])?;
-    sizes(rt, "one byte", all_bits(48, 200), &byte)
+    sizes(rt, b"no bytes", all_bits(48, 200), &byte[..0])?;
+    sizes(rt, b"one byte", all_bits(48, 200), &byte)
 }

@@ -23,14 +23,14 @@ fn damage(bytes: &mut [u8], place: usize, byte: u8) {
 }
 
 // Reads what stands from a place on.
-fn read(rt: &impl Print, what: &str, bytes: &[u8], from: usize, asked: Label) -> io::Result<()> {
+fn read(rt: &impl Print, what: &[u8], bytes: &[u8], from: usize, asked: Label) -> io::Result<()> {
     if from <= bytes.len() {
         read_part(rt, what, &bytes[from..], asked)?;
     }
     Ok(())
 }
 
-fn read_part(rt: &impl Print, what: &str, bytes: &[u8], asked: Label) -> io::Result<()> {
+fn read_part(rt: &impl Print, what: &[u8], bytes: &[u8], asked: Label) -> io::Result<()> {
     let mut list = [7u64; 5];
     show::text(rt, what)?;
     match read_sheet(bytes, asked, &mut list) {
@@ -39,24 +39,24 @@ fn read_part(rt: &impl Print, what: &str, bytes: &[u8], asked: Label) -> io::Res
             settings,
             count,
         } => {
-            show::text(rt, ": read")?;
+            show::text(rt, b": read")?;
             show::after_space(rt, label as u64)?;
             show::after_space(rt, settings.bits as u64)?;
             show::after_space(rt, settings.target as u64)?;
             show::after_space(rt, settings.minimum)?;
             show::after_space(rt, settings.maximum)?;
             show::after_space(rt, count)?;
-            show::text(rt, " list")?;
+            show::text(rt, b" list")?;
         }
         Sheet::Refused(why) => {
-            show::text(rt, ": refused ")?;
+            show::text(rt, b": refused ")?;
             show::number(rt, why.number() as u64)?;
         }
     }
     show::entries(rt, &list)
 }
 
-fn damaged(rt: &impl Print, what: &str, place: usize, byte: u8) -> io::Result<()> {
+fn damaged(rt: &impl Print, what: &[u8], place: usize, byte: u8) -> io::Result<()> {
     let mut bytes = [9u8; 69];
     fill(&mut bytes);
     damage(&mut bytes, place, byte);
@@ -80,7 +80,7 @@ fn write_in(
 
 fn write(
     rt: &impl Print,
-    what: &str,
+    what: &[u8],
     settings: Settings,
     label: Label,
     list: &[u64],
@@ -90,7 +90,7 @@ fn write(
     let mut bytes = [9u8; 69];
     let answer = write_in(&mut bytes, settings, label, list, room);
     show::answer(rt, what, answer)?;
-    show::text(rt, "\n")?;
+    show::text(rt, b"\n")?;
     show::hex(rt, &bytes, shown)
 }
 
@@ -98,7 +98,7 @@ fn figures(rt: &impl Print) -> io::Result<()> {
     let list = [100u64, 200, 300, 400];
     write(
         rt,
-        "C's list as practice",
+        b"C's list as practice",
         all_bits(48, 200),
         Label::Practice,
         &list,
@@ -107,7 +107,7 @@ fn figures(rt: &impl Print) -> io::Result<()> {
     )?;
     write(
         rt,
-        "an empty list as live",
+        b"an empty list as live",
         all_bits(48, 200),
         Label::Live,
         &list[..0],
@@ -116,7 +116,7 @@ fn figures(rt: &impl Print) -> io::Result<()> {
     )?;
     let mut bytes = [9u8; 69];
     fill(&mut bytes);
-    read(rt, "after other bytes", &bytes, 0, Label::Practice)
+    read(rt, b"after other bytes", &bytes, 0, Label::Practice)
 }
 
 // 200 becomes 100, and the check word is one that goes with it.
@@ -126,23 +126,23 @@ fn not_rising(rt: &impl Print) -> io::Result<()> {
     damage(&mut bytes, 15, 100);
     damage(&mut bytes, 62, 0xA7);
     damage(&mut bytes, 63, 0x0C);
-    read(rt, "a list that does not rise", &bytes, 0, Label::Practice)
+    read(rt, b"a list that does not rise", &bytes, 0, Label::Practice)
 }
 
 fn refused_reading(rt: &impl Print) -> io::Result<()> {
     let mut bytes = [9u8; 69];
     fill(&mut bytes);
-    read(rt, "31 bytes", &bytes, 38, Label::Practice)?;
-    read(rt, "a body cut off", &bytes, 6, Label::Practice)?;
-    read(rt, "asked for as live", &bytes, 0, Label::Live)?;
-    damaged(rt, "no CUTS", 35, 0x54)?;
-    damaged(rt, "a label that is none", 36, 0x51)?;
-    damaged(rt, "no pattern bits", 37, 0)?;
-    damaged(rt, "a byte that is to be zero", 38, 1)?;
-    damaged(rt, "a count of five", 55, 5)?;
-    damaged(rt, "a distance of 40", 59, 40)?;
-    damaged(rt, "an offset of 101", 7, 101)?;
-    damaged(rt, "a check word one off", 63, 0xA9)?;
+    read(rt, b"31 bytes", &bytes, 38, Label::Practice)?;
+    read(rt, b"a body cut off", &bytes, 6, Label::Practice)?;
+    read(rt, b"asked for as live", &bytes, 0, Label::Live)?;
+    damaged(rt, b"no CUTS", 35, 0x54)?;
+    damaged(rt, b"a label that is none", 36, 0x51)?;
+    damaged(rt, b"no pattern bits", 37, 0)?;
+    damaged(rt, b"a byte that is to be zero", 38, 1)?;
+    damaged(rt, b"a count of five", 55, 5)?;
+    damaged(rt, b"a distance of 40", 59, 40)?;
+    damaged(rt, b"an offset of 101", 7, 101)?;
+    damaged(rt, b"a check word one off", 63, 0xA9)?;
     not_rising(rt)
 }
 
@@ -150,7 +150,7 @@ fn refused_writing(rt: &impl Print) -> io::Result<()> {
     let list = [100u64, 200, 300, 400];
     write(
         rt,
-        "settings out of range",
+        b"settings out of range",
         all_bits(47, 200),
         Label::Live,
         &list,
@@ -160,7 +160,7 @@ fn refused_writing(rt: &impl Print) -> io::Result<()> {
     let falling = [100u64, 99];
     write(
         rt,
-        "a falling list",
+        b"a falling list",
         all_bits(48, 200),
         Label::Live,
         &falling,
@@ -169,7 +169,7 @@ fn refused_writing(rt: &impl Print) -> io::Result<()> {
     )?;
     write(
         rt,
-        "room for one byte less",
+        b"room for one byte less",
         all_bits(48, 200),
         Label::Live,
         &list,
