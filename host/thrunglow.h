@@ -1,4 +1,4 @@
-/* The calls of Thrunglow for C. Link crates/thrunglow/out/libthrunglow.a, which `rt lib` in crates/thrunglow writes.
+/* The calls of Thrunglow for C. Link target/staticlib/libthrunglow.a, which building host/thrunglow writes.
  *
  * A log is cut into pieces where its content says. A list of cuts has the offset where each piece ends, rising, the log's length
  * last. It belongs to the bytes and the settings alone: every way of cutting gives the same list.

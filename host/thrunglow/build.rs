@@ -1,5 +1,5 @@
-//! Links the proved library, crates/thrunglow/out/libthrunglow.a. Where the archive is missing or older than the crates' code, `rt lib`
-//! in crates/thrunglow writes it first. A machine without the kit names an archive in THRUNGLOW_STATICLIB.
+//! Links the proved library, target/staticlib/libthrunglow.a at the repository's root. Where the archive is missing or older than
+//! the crates' code, `rt lib` in crates/thrunglow_c writes it first. A machine without the kit names an archive in THRUNGLOW_STATICLIB.
 
 use std::path::{Path, PathBuf};
 use std::process::{Command, Stdio};
@@ -19,7 +19,7 @@ fn main() {
 /// The repository's archive, as new as the code.
 fn archive_of_this_repository() -> PathBuf {
     let root = Path::new(env!("CARGO_MANIFEST_DIR")).join("../..").canonicalize().expect("the repository's root");
-    let archive = root.join("crates/thrunglow/out/libthrunglow.a");
+    let archive = root.join("target/staticlib/libthrunglow.a");
     let written = |path: &Path| fs::metadata(path).and_then(|about| about.modified());
     match written(&archive) {
         Ok(then) if then >= newest_code(&root) => {}
@@ -49,12 +49,13 @@ fn newest_code(root: &Path) -> SystemTime {
     newest
 }
 
-/// Runs `rt lib` in crates/thrunglow and dates the archive now, since `rt` leaves one that is the same as it was.
+/// Runs `rt lib` in crates/thrunglow_c and copies what it writes, so that the archive has its name and is dated now.
 fn write_archive(root: &Path, archive: &Path, why: &str) {
-    eprintln!("thrunglow: {} {why}: running `rt lib` in crates/thrunglow", archive.display());
+    eprintln!("thrunglow: {} {why}: running `rt lib` in crates/thrunglow_c", archive.display());
+    let exports = root.join("crates/thrunglow_c");
     let run = Command::new("rt")
         .arg("lib")
-        .current_dir(root.join("crates/thrunglow"))
+        .current_dir(&exports)
         .stdin(Stdio::null())
         .stdout(Stdio::from(io::stderr()))
         .status();
@@ -66,6 +67,7 @@ fn write_archive(root: &Path, archive: &Path, why: &str) {
              THRUNGLOW_STATICLIB."
         ),
     }
-    let dated = fs::File::options().append(true).open(archive).and_then(|file| file.set_modified(SystemTime::now()));
-    dated.unwrap_or_else(|error| panic!("thrunglow: {}: {error}", archive.display()));
+    let folder = archive.parent().expect("an archive stands in a folder");
+    let copied = fs::create_dir_all(folder).and_then(|()| fs::copy(exports.join("out/libthrunglow_c.a"), archive));
+    copied.unwrap_or_else(|error| panic!("thrunglow: {}: {error}", archive.display()));
 }

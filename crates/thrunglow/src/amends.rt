@@ -35,8 +35,7 @@ fn counted(amendment: amending::Amendment) -> Amendment
     }
 }
 
-#[unsafe(no_mangle)]
-pub extern "C" fn thrunglow_amend(
+pub fn thrunglow_amend(
     settings: Settings,
     old: &[u64],
     at: u64,

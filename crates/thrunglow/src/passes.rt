@@ -29,23 +29,20 @@ fn handed(outcome: Outcome) -> Passed
     }
 }
 
-#[unsafe(no_mangle)]
-pub extern "C" fn thrunglow_fresh(settings: Settings) -> Passed
+pub fn thrunglow_fresh(settings: Settings) -> Passed
     ensures answer { result ≡ passed_of (fresh_outcome settings) }
 {
     handed(pass::fresh(settings))
 }
 
-#[unsafe(no_mangle)]
-pub extern "C" fn thrunglow_block(carry: Carry, block: &[u8], list: &mut [u64]) -> Passed
+pub fn thrunglow_block(carry: Carry, block: &[u8], list: &mut [u64]) -> Passed
     ensures answer { result ≡ passed_of (block_outcome carry block.now (length list.old)) }
     ensures list { list.new ≡ block_leaves carry block.now list.old }
 {
     handed(pass::block(carry, block, list))
 }
 
-#[unsafe(no_mangle)]
-pub extern "C" fn thrunglow_close(carry: Carry, list: &mut [u64]) -> Passed
+pub fn thrunglow_close(carry: Carry, list: &mut [u64]) -> Passed
     ensures answer { result ≡ passed_of (close_outcome carry (length list.old)) }
     ensures list { list.new ≡ close_leaves carry list.old }
 {

@@ -7,8 +7,7 @@ ghost use Rattle.thrunglow.specs.Outcomes.{outcome_of};
 use super::answers::{Outcome, numbered};
 use terms::Settings;
 
-#[unsafe(no_mangle)]
-pub extern "C" fn thrunglow_segment(
+pub fn thrunglow_segment(
     settings: Settings,
     log: &[u8],
     size: u64,
@@ -22,8 +21,7 @@ pub extern "C" fn thrunglow_segment(
     numbered(board::segment(settings, log, size, width, index, board))
 }
 
-#[unsafe(no_mangle)]
-pub extern "C" fn thrunglow_record(
+pub fn thrunglow_record(
     settings: Settings,
     log: &[u8],
     size: u64,
@@ -36,8 +34,7 @@ pub extern "C" fn thrunglow_record(
     numbered(board::record(settings, log, size, index, bay))
 }
 
-#[unsafe(no_mangle)]
-pub extern "C" fn thrunglow_merge(
+pub fn thrunglow_merge(
     settings: Settings,
     bytes: u64,
     size: u64,

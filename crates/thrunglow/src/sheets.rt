@@ -48,8 +48,7 @@ fn reading_of(sheet: Sheet) -> Reading
     }
 }
 
-#[unsafe(no_mangle)]
-pub extern "C" fn thrunglow_write_sheet(
+pub fn thrunglow_write_sheet(
     settings: Settings,
     live: bool,
     list: &[u64],
@@ -61,8 +60,7 @@ pub extern "C" fn thrunglow_write_sheet(
     numbered(sheet::write_sheet(settings, label_of(live), list, bytes))
 }
 
-#[unsafe(no_mangle)]
-pub extern "C" fn thrunglow_read_sheet(bytes: &[u8], live: bool, list: &mut [u64]) -> Reading
+pub fn thrunglow_read_sheet(bytes: &[u8], live: bool, list: &mut [u64]) -> Reading
     ensures answer { result ≡ reading_of (read_sheet_answer bytes.now (label_of live) (length list.old)) }
     ensures list { list.new ≡ read_sheet_leaves bytes.now (label_of live) list.old }
 {

@@ -6,8 +6,7 @@ ghost use Rattle.thrunglow.specs.Outcomes.{outcome_of};
 use super::answers::{Outcome, numbered};
 use terms::Settings;
 
-#[unsafe(no_mangle)]
-pub extern "C" fn thrunglow_cut_log(settings: Settings, log: &[u8], list: &mut [u64]) -> Outcome
+pub fn thrunglow_cut_log(settings: Settings, log: &[u8], list: &mut [u64]) -> Outcome
     ensures answer { result ≡ outcome_of (cut_log_answer settings log.now (length list.old)) }
     ensures list { list.new ≡ cut_log_leaves settings log.now list.old }
 {

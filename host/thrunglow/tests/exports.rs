@@ -131,7 +131,7 @@ fn c_structs(header: &str) -> Declared {
 
 #[test]
 fn the_calls_are_declared_alike() {
-    let exported = rust_calls(&library("thrunglow"), "pub extern \"C\" fn ");
+    let exported = rust_calls(&library("thrunglow_c"), "pub extern \"C\" fn ");
     assert_eq!(exported.len(), 10, "{:?}", exported.keys());
     assert_eq!(c_calls(&header()), exported);
     let raw = read("src/raw.rs");
