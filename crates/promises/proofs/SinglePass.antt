@@ -137,7 +137,8 @@ module _ (c : Carry) (block list : List ℕ) {k : ℕ} (e : (block_outcome c blo
   pub block_written : Lists list (block_leaves c block list) (cuts_in c block) k
   unfolding block_outcome block_leaves block_rows
   block_written =
-      wrote_all (verdict (block_rows c block (length list))) (cuts_in c block) list (sym (through answer_of (verdict (block_rows c block (length list))) (refused c) (wrote (block_taken c block) _)) ∙ e)
+      wrote_all (verdict (block_rows c block (length list))) (cuts_in c block) list
+      (sym (through answer_of (verdict (block_rows c block (length list))) (refused c) (wrote (block_taken c block) _)) ∙ e)
       (λ v. ltb-false _ _ (clear _ _ _ (clear _ _ _ (clear _ _ _ (both_clear (carry_rows c) _ v).1).1).1).0)
 
   pub block_carries : (block_outcome c block (length list)).carry ≡ block_taken c block

@@ -1,3 +1,4 @@
+-- The lines of the entries before place i are put, and the rest are left.
 use Rattle.std.proofs.Common.{◌-◌, length}
 use Rattle.cutlist_program.proofs.Underway.{Underway}
 use Rattle.cutlist_program.proofs.put_lines.Given as goal

@@ -1,3 +1,4 @@
+-- The turns are counted down.
 use Rattle.cutlist_program.proofs.read_all.Given as goal
 
 abbrev pub decreases-loop-turns : goal.decreases-loop-turns

@@ -1,3 +1,4 @@
+-- The place never passes the log's end.
 use Rattle.std.proofs.Common.{length, ◌-◌, ◌≤◌}
 use Rattle.figures_pass.proofs.passes.take_all.Given as goal
 
