@@ -1,4 +1,5 @@
 -- Demand 3 over bytes: amending the true list of an old log answers and leaves what cutting the new log afresh does.
+use Rattle.std.specs.Prelude.{Ok, Err}
 use Prim.Native.Nat.{ℕ, ◌+◌, ◌-◌, ◌≤◌, ◌<◌}
 use mathlib.Core.Path.{◌≡◌, refl, sym, ◌∙◌}
 use mathlib.Core.Bool.{true}
@@ -8,10 +9,8 @@ use lib.ListN.{length, get_or, length-append, get_or-append}
 use lib.Seq.{get_or-append-add}
 use Rattle.laws.proofs.Cases.{by_lt, by_test}
 use Rattle.terms.specs.declared.Settings.{Settings}
-use Rattle.terms.specs.declared.Answer.TheVariants as whole
 use Rattle.terms.specs.declared.Refusal.TheVariants.{SettingsOutOfRange}
-use Rattle.terms.specs.declared.Verdict.{Verdict}
-use Rattle.terms.specs.declared.Verdict.TheVariants.{Fine, Wrong}
+use Rattle.terms.specs.Rows.{Verdict}
 use Rattle.terms.specs.Settings.{in_range}
 use Rattle.terms.specs.Answers.{answer_number, answer_count, longest}
 use Rattle.terms.specs.Rows.{verdict, ruled}
@@ -22,7 +21,7 @@ use Rattle.cutting.specs.Calls.{cut_log_rows, cut_log_answer, cut_log_leaves}
 use Rattle.cutting.proofs.Marked.{mark_low, marks_by_bytes}
 use Rattle.cutting.proofs.Reaching.{true_list}
 use Rattle.amending.specs.declared.edits.Edit.{Edit}
-use Rattle.amending.specs.declared.Amendment.TheVariants.{Amended, Refused}
+use Rattle.amending.specs.Answers.{amended}
 use Rattle.amending.specs.Parts.{amended_list}
 use Rattle.amending.specs.Answers.{amendment_number, front_of, recut_of, back_of, new_cuts_of, counts, edit_fits, amend_rows, amend_answer, amend_leaves}
 use Rattle.amending.proofs.Fitting.{edit_fits_lem}
@@ -49,16 +48,16 @@ replaced a removed added b = record {
     past c q i e = rw (e, ← append_assoc, ← length-append) (get_or-append-add (a ++ c) b i 0)
 
 -- a verdict on a list and on its three parts: the same number, and the counts add up
-same_number : (v : Verdict) (f r b n : ℕ) → amendment_number (ruled v Refused (Amended f r b)) ≡ answer_number (ruled v whole.Refused (whole.Wrote n))
+same_number : (v : Verdict) (f r b n : ℕ) → amendment_number (ruled v Err (amended f r b)) ≡ answer_number (ruled v Err (Ok n))
 unfolding amendment_number answer_number
-same_number Fine f r b n = refl
-same_number (Wrong why) f r b n = refl
+same_number (Ok tt) f r b n = refl
+same_number (Err why) f r b n = refl
 
 same_count : (v : Verdict) (new_cuts : ℕ → List ℕ) (old : List ℕ) (edit : Edit) {l : List ℕ} → amended_list new_cuts old edit ≡ l
-    → let answer = ruled v Refused (counts new_cuts old edit) in front_of answer + recut_of answer + back_of answer ≡ answer_count (ruled v whole.Refused (whole.Wrote (length l)))
+    → let answer = ruled v Err (counts new_cuts old edit) in front_of answer + recut_of answer + back_of answer ≡ answer_count (ruled v Err (Ok (length l)))
 unfolding front_of recut_of back_of answer_count amended_list
-same_count Fine new_cuts old edit e = rw (← e, length-append, length-append) (omega arith)
-same_count (Wrong why) new_cuts old edit e = refl
+same_count (Ok tt) new_cuts old edit e = rw (← e, length-append, length-append) (omega arith)
+same_count (Err why) new_cuts old edit e = refl
 
 module _ (settings : Settings) {edit : Edit} {log log' : List ℕ} (r : Replaced edit log log') where
   afresh : in_range settings ≡ true → amended_list (new_cuts_of settings log') (cut_list settings log) edit ≡ cut_list settings log'
@@ -96,6 +95,6 @@ module _ (settings : Settings) {edit : Edit} {log log' : List ℕ} (r : Replaced
           same_number (verdict (cut_log_rows settings log' (length list))) _ _ _ _,
           by_test (in_range settings)
               (λ ok. (same_count (verdict (cut_log_rows settings log' (length list))) _ _ _ (afresh ok), rw (afresh ok)))
-              (λ bad. let out : verdict (cut_log_rows settings log' (length list)) ≡ Wrong SettingsOutOfRange = unfold cut_log_rows verdict in rw bad in
+              (λ bad. let out : verdict (cut_log_rows settings log' (length list)) ≡ Err SettingsOutOfRange = unfold cut_log_rows verdict in rw bad in
               rw out (refl, refl)),
         )

@@ -44,17 +44,12 @@ module _ (s : ℕ) where
   front_is old = (counted old).0
 
   -- the count as the code finds it: without the old end, the cuts before the first that is past s
-  pub count_none : (l : List ℕ) → length l ≡ 0 → front_count s l ≡ 0
-  unfolding front_count
-  count_none [] h = refl
-  count_none (x ∷ l) h = absurd (omega arith)
-
-  pub count_is : (l : List ℕ) → (length l ≡ 0 → ⊥) → length (until (leb (s + 1)) (take (length l - 1) l)) ≡ front_count s l
+  pub count_is : (l : List ℕ) → length (until (leb (s + 1)) (take (length l - 1) l)) ≡ front_count s l
   unfolding front_count until
-  count_is [] some = absurd (some refl)
-  count_is (x ∷ []) some = refl
-  count_is (x ∷ y ∷ l) some =
-      let more : length (until (leb (s + 1)) (take (length (y ∷ l) - 1) (y ∷ l))) ≡ front_count s (y ∷ l) = count_is (y ∷ l) (λ h. omega arith) in
+  count_is [] = refl
+  count_is (x ∷ []) = refl
+  count_is (x ∷ y ∷ l) =
+      let more : length (until (leb (s + 1)) (take (length (y ∷ l) - 1) (y ∷ l))) ≡ front_count s (y ∷ l) = count_is (y ∷ l) in
       let place : length (x ∷ y ∷ l) - 1 ≡ suc (length (y ∷ l) - 1) = omega arith in
       by_lt s x
       (λ h. rw (place, none_kept x y l h, le-leb (s + 1) x (omega arith), until))

@@ -8,6 +8,9 @@ use lib.Dec.{leb, eqb}
 use lib.ListN.{length, get_or, drop, length-append, length-drop}
 use lib.Seq.{drop-cons, get_or-drop}
 use borrow.Author.Tests.{le-leb, lt-leb, leb-true, leb-false, eqb-true, eqb-false, eq-eqb, ne_eqb}
+use Rattle.std.proofs.Common.{Option, None, Some, Bor}
+use Rattle.std.specs.Option.{option_eq}
+use Rattle.std.specs.Slice.{IsItemAt}
 use Rattle.laws.proofs.Cases.{by_lt, by_test, clash}
 use Rattle.lists.specs.WellFormed.{is_empty}
 use Rattle.amending.specs.declared.edits.Edit.{Edit}
@@ -43,7 +46,7 @@ module _ (edit : Edit) (t : ℕ) (left : List ℕ) where
 
   -- past it: r old cuts are below the place of t
   module _ (far : edit.at + edit.added ≤ t) (r : ℕ) (stops : r ≡ length (until (leb (place_of edit t)) left)) where
-    pub look_passes : r ≡ passed_by edit left t
+    look_passes : r ≡ passed_by edit left t
     unfolding passed_by
     look_passes = rw (le-leb _ t far, passed_by) stops
 
@@ -65,7 +68,7 @@ module _ (edit : Edit) (t : ℕ) (left : List ℕ) where
     unfolding is_empty
     unmet other = meets_by (skipped t (omega arith) ∙ from_none (was_at edit t) (drop r left) (λ i h. not_there edit t (get_or (drop r left) i 0) (λ is. other i h (omega arith))))
 
-    pub look_end : length left ≤ r → false ≡ meets edit left t
+    look_end : length left ≤ r → false ≡ meets edit left t
     look_end h = unmet (λ i below. absurd (omega (arith, length-drop r left)))
 
     module _ (rises : Ascends left) (inside : r < length left) where
@@ -78,7 +81,7 @@ module _ (edit : Edit) (t : ℕ) (left : List ℕ) where
           let at : get_or left r 0 + edit.added ≡ t + edit.removed = omega (arith, eqb-true (get_or left r 0) _ e) in
           skipped t (omega arith) ∙ ap (from (was_at edit t)) there ∙ from_is (was_at edit t) (here (eq-eqb _ _ at))
 
-      pub look_at : eqb (get_or left r 0) (place_of edit t) ≡ meets edit left t
+      look_at : eqb (get_or left r 0) (place_of edit t) ≡ meets edit left t
       unfolding is_empty
       look_at =
           by_test (eqb (get_or left r 0) (place_of edit t))
@@ -87,6 +90,17 @@ module _ (edit : Edit) (t : ℕ) (left : List ℕ) where
           leb-true _ _ (heads (subst (Split (leb (place_of edit t)) left (until (leb (place_of edit t)) left)) (sym remains ∙ there) (split _ left))) in
           e ∙ unmet (λ i below is. eqb-false (get_or left r 0) _ e
           (omega (arith, ap (λ l. get_or l 0 0) there, first_least (drop r left) (ascends_after r left rises) i below))))
+
+    -- the next old cut, as the list lends it, is at that place just where t meets one
+    next_met : Ascends left → (next : Option (Bor ℕ)) → IsItemAt left r next → (offset : Bor ℕ) → offset.now ≡ place_of edit t → option_eq (λ x y. eqb x.now y.now) next (Some offset) ≡ meets edit left t
+    next_met rises None item offset is = look_end item.3
+    next_met rises (Some x) item offset is = rw (item.4 (omega arith) 0, is) (look_at rises item.3.0)
+
+    -- how many old cuts a look past the change's end passes, and that comparing the next of them finds whether t meets one
+    pub look_next :
+        Ascends left → (next : Option (Bor ℕ)) → IsItemAt left r next → (offset : Bor ℕ) → offset.now ≡ place_of edit t → {met : Bool} → met ≡ option_eq (λ x y. eqb x.now y.now) next (Some offset)
+        → (r ≡ passed_by edit left t) × (meets edit left t ≡ met)
+    look_next rises next item offset is told = (look_passes, sym (told ∙ next_met rises next item offset is))
 
     look_past : Ascends left → Looked edit t left r (meets edit left t)
     look_past rises = record {

@@ -1,11 +1,11 @@
 -- What the inner functions ask and tell.
-use Rattle.std.specs.Prelude.{ℕ, ◌+◌, ◌-◌, ◌≤◌, ◌<◌, ◌^◌, ◌≡◌, true, false, List, [], ◌∷◌, map, leb, length, get_or, drop}
-use Rattle.std.proofs.lemmas.List.Edits.{sets}
+use Rattle.std.specs.Prelude.{ℕ, ◌+◌, ◌-◌, ◌≤◌, ◌<◌, ◌^◌, ◌≡◌, true, false, List, [], ◌∷◌, map, leb, length, get_or, drop, Err}
 use Rattle.terms.specs.Rows.{verdict, ruled}
+use Rattle.lists.specs.declared.Made.{Made}
+use Rattle.lists.specs.Puts.{Puts}
 use Rattle.lists.specs.Written.{guard}
 use Rattle.amending.specs.declared.edits.Edit.{Edit}
-use Rattle.amending.specs.declared.Amendment.{Amendment}
-use Rattle.amending.specs.declared.Amendment.TheVariants.{Refused}
+use Rattle.amending.specs.Answers.{Amendment}
 use Rattle.amending.specs.Parts.{until, from, meets, moved, back_from, amended_list}
 use Rattle.amending.specs.Answers.{counts}
 
@@ -25,16 +25,13 @@ place_of edit t = t - edit.added + edit.removed
 unfoldable pub passed_by : (edit : Edit) (left : List ℕ) (t : ℕ) → ℕ
 passed_by edit left t = elim (leb (edit.at + edit.added) t) [ true ↦ length (until (leb (place_of edit t)) left) | false ↦ 0 ]
 
--- what recutting a log of so many bytes tells, where kept entries stand before: the cuts up to the meeting are counted and written as far as
--- the list goes, and the old cuts from the meeting on, which can be moved, make the back
-pub record Recutted (edit : Edit) (bytes : ℕ) (past news : List ℕ) (kept : ℕ) (list₀ list : List ℕ) (count passed : ℕ) : Type 0 where
-  pub counted : count ≡ length (until (meets edit past) news)
-  pub few : count ≤ bytes
-  pub written : list ≡ sets list₀ kept (until (meets edit past) news)
+-- what recutting tells: the cuts up to the meeting are made, and the old cuts from the meeting on, which can be moved, make the back
+pub record Recutted (edit : Edit) (past news : List ℕ) (before after : Made) (list₀ list : List ℕ) (passed : ℕ) : Type 0 where
+  pub puts : Puts (until (meets edit past) news) before after list₀ list
   pub within : passed ≤ length past
   pub onward : back_from edit past (from (meets edit past) news) ≡ map (moved edit) (drop passed past)
   pub movable : (i : ℕ) → i < length (drop passed past) → edit.removed ≤ get_or (drop passed past) i 0 + edit.added
 
 -- writing the three parts into a list with so many places: their counts, or the guard
 unfoldable pub parts_answer : (new_cuts : ℕ → List ℕ) (old : List ℕ) (edit : Edit) (room : ℕ) → Amendment
-parts_answer new_cuts old edit room = ruled (verdict (guard (amended_list new_cuts old edit) room ∷ [])) Refused (counts new_cuts old edit)
+parts_answer new_cuts old edit room = ruled (verdict (guard (amended_list new_cuts old edit) room ∷ [])) Err (counts new_cuts old edit)

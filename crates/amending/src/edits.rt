@@ -11,18 +11,13 @@ pub struct Edit {
 
 impl Edit {
     // Whether the edit lies within the old log of n bytes and gives the new one. The numbers are any: nothing wraps.
+    #[tactic(auto, using(crate::proofs::Fitting::edit_over, crate::proofs::Fitting::edit_compared), unfolding(crate::specs::Answers::edit_fits))]
     pub fn fits(self, n: u64, bytes: u64) -> bool
         ensures { result ≡ edit_fits n self bytes }
     {
-        if self.at > n {
-            return false;
-        }
-        if self.removed > n - self.at {
-            return false;
-        }
-        if self.added > bytes {
-            return false;
-        }
-        bytes - self.added == n - self.removed
+        self.at <= n
+            && self.removed <= n - self.at
+            && self.added <= bytes
+            && bytes - self.added == n - self.removed
     }
 }

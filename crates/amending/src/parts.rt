@@ -9,10 +9,7 @@ ghost use Rattle.amending.specs.Inner.{Movable};
 pub fn last_of(list: &[u64]) -> u64
     ensures { result ≡ last_or 0 list.now }
 {
-    if list.len() == 0 {
-        return 0;
-    }
-    list[list.len() - 1]
+    list.last().copied().unwrap_or(0)
 }
 
 // How many old cuts are kept: those before the first past a place, and not the old end.
@@ -20,21 +17,17 @@ pub fn front_count(old: &[u64], place: u64) -> usize
     requires { place + 1 < 2 ^ 64 }
     ensures { result ≡ front_count place old.now }
 {
-    if old.len() == 0 {
-        return 0;
-    }
-    let end = old.len() - 1;
-    super::meeting::climb(&old[..end], place + 1)
+    let cuts = &old[..old.len().saturating_sub(1)];
+    super::meeting::climb(cuts, place + 1)
 }
 
-// Writes old cuts, moved by the bytes added less those removed, from a place of the list on, as far as it goes.
+// Writes old cuts, moved by the bytes added less those removed, from a place of the list on, as far as it goes: the list may end before the
+// place. Places are counted: a `zip` over the list's `get_mut(at..)` was tried and its proof did not close, as such a loop tells nothing of what it wrote.
 pub fn put_moved(part: &[u64], removed: u64, added: u64, list: &mut [u64], at: u64)
     requires { (at + length part.now < 2 ^ 64) × Movable removed added part.now }
     ensures { list.new ≡ sets list.old at (map (shifted removed added) part.now) }
 {
-    let mut i = 0;
-    while i < part.len() {
-        lists::put(list, at + i as u64, part[i] + added - removed);
-        i += 1;
+    for (i, cut) in part.iter().enumerate() {
+        lists::put(list, at + i as u64, *cut + added - removed);
     }
 }

@@ -1,7 +1,8 @@
 -- A record put into its bay, and a bay put back into its board, as the code does it.
+use Rattle.std.specs.Prelude.{Ok, Err}
 use Prim.Native.Nat.{ℕ, suc, ◌+◌, ◌-◌, ◌*◌, ◌≤◌, ◌<◌}
 use mathlib.Core.Path.{◌≡◌, ap, ap₂, ◌∙◌}
-use mathlib.Core.Bool.{true}
+use mathlib.Core.Bool.{Bool, true}
 use mathlib.Core.List.{List, [], ◌∷◌, ◌++◌, append-nil}
 use native.Mathlib.Nat.{zero-add}
 use native.Mathlib.Omega.{arith}
@@ -13,11 +14,14 @@ use Rattle.laws.proofs.Cases.{both_true}
 use Rattle.laws.specs.Over.{over}
 use Rattle.laws.proofs.Writing.{over_full}
 use Rattle.terms.specs.declared.Refusal.TheVariants.{RecordTooLong}
-use Rattle.terms.specs.declared.Answer.TheVariants.{Wrote, Refused}
 use Rattle.board_record.specs.declared.Recorded.{Recorded}
 use Rattle.board_bays.specs.Bays.{Record, entries}
 use Rattle.terms.specs.Answers.{longest}
-use Rattle.terms.specs.Rows.{verdict}
+use Rattle.terms.specs.declared.Settings.{Settings}
+use Rattle.terms.specs.Settings.{in_range}
+use Rattle.terms.specs.Rows.{Verdict, verdict}
+use Rattle.board_bays.specs.Judging.{call_rows}
+use Rattle.board_bays.proofs.Verdicts.{came, passed}
 use Rattle.board_bays.specs.Segments.{segments, shape_fits, board_fits, bay_fits, segment_fits, There}
 use Rattle.board.specs.Recording.{record_fits, recorded, with_bay}
 use Rattle.board.specs.Inner.{filled_answer}
@@ -49,7 +53,7 @@ module _ (r : Record) (rec : Recorded) (bay part : List ℕ) (wide : 2 ≤ lengt
           ap (λ (l : List ℕ). x ∷ y ∷ l) (ap (λ (l : List ℕ). part ++ l) none ∙ append-nil part)
 
   pub record_fitted : rec.count ≤ length bay - 2
-      → (Wrote (rec.count + 2) ≡ filled_answer r (length bay))
+      → (Ok (rec.count + 2) ≡ filled_answer r (length bay))
       × (set (set (take 2 bay ++ (part ++ drop (length bay - 2) (drop 2 bay))) 0 (rec.count + 1)) 1 rec.marker ≡ recorded r bay)
   unfolding filled_answer verdict record_fits recorded over entries
   record_fitted h =
@@ -58,12 +62,12 @@ module _ (r : Record) (rec : Recorded) (bay part : List ℕ) (wide : 2 ≤ lengt
       let past : 2 + length r.offsets ≡ suc (suc (length r.offsets)) = omega arith in
       let offsets : part ≡ r.offsets ++ drop (suc (suc (length r.offsets))) bay =
       part_is ∙ rw (take_all (length bay - 2) r.offsets fits, drop-drop, past) in (
-        rw (le-leb _ _ fits) (ap Wrote (omega (arith, count_is))),
+        rw (le-leb _ _ fits) (ap Ok (omega (arith, count_is))),
         rw (le-leb _ _ fits) (stored (rec.count + 1) rec.marker ∙ rw (n, w.marked) (ap (λ (l : List ℕ). suc (length r.offsets) ∷ r.marker ∷ l) offsets)),
       )
 
   pub record_long : length bay - 2 < rec.count
-      → (Refused RecordTooLong ≡ filled_answer r (length bay))
+      → (Err RecordTooLong ≡ filled_answer r (length bay))
       × (set (set (take 2 bay ++ (part ++ drop (length bay - 2) (drop 2 bay))) 0 0) 1 0 ≡ recorded r bay)
   unfolding filled_answer verdict record_fits recorded
   record_long h =
@@ -79,17 +83,25 @@ there_by n size width i shape short exists =
     let z = sizes size width shape in
     (record { large = z.0; bounded = z.1; short = short; there = ltb-true _ _ exists }, z.2)
 
-pub bay_there : (n size width i : ℕ) → n ≤ longest → bay_fits n size width i ≡ true → There n size i × (2 ≤ width)
-unfolding bay_fits
-bay_there n size width i short t = let f = both_true t in there_by n size width i f.0 short f.1
+module _ (s : Settings) (n : ℕ) {v : Verdict} {asked : Bool} (told : v ≡ verdict (call_rows s n asked)) (fine : v ≡ Ok tt) where
+  pub granted : {fits : Bool} → asked ≡ fits → (in_range s ≡ true) × (n ≤ longest) × (fits ≡ true)
+  granted {fits} fit = passed s n fits (came s n told fit fine)
 
-pub segment_there : (n size width i numbers : ℕ) → n ≤ longest → segment_fits n size width i numbers ≡ true → There n size i × (2 ≤ width) × (i * width + width ≤ numbers)
-unfolding segment_fits board_fits
-segment_there n size width i numbers short t =
-    let f = both_true t in
-    let b = both_true f.0 in
-    let there = there_by n size width i b.0 short f.1 in
-    (there.0, there.1, bay_inside (segments n size) width i numbers there.0.there (leb-true _ _ b.1))
+  pub bay_granted : (size width i : ℕ) → asked ≡ bay_fits n size width i → There n size i × (2 ≤ width)
+  unfolding bay_fits
+  bay_granted size width i fit =
+      let g = granted fit in
+      let f = both_true g.2 in
+      there_by n size width i f.0 g.1 f.1
+
+  pub segment_granted : (size width i numbers : ℕ) → asked ≡ segment_fits n size width i numbers → There n size i × (2 ≤ width) × (i * width + width ≤ numbers)
+  unfolding segment_fits board_fits
+  segment_granted size width i numbers fit =
+      let g = granted fit in
+      let f = both_true g.2 in
+      let b = both_true f.0 in
+      let there = there_by n size width i b.0 g.1 f.1 in
+      (there.0, there.1, bay_inside (segments n size) width i numbers there.0.there (leb-true _ _ b.1))
 
 -- a bay as it was lent, and put back into its board
 module _ (width i : ℕ) (board : List ℕ) (fits : i * width + width ≤ length board) where

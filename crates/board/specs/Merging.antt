@@ -1,9 +1,8 @@
 -- What merging answers and writes, for every input: document 01, "Segments and the board" and "Numbers answered".
-use Rattle.std.specs.Prelude.{ℕ, List, [], ◌∷◌, ◌++◌, ltb, length}
+use Rattle.std.specs.Prelude.{ℕ, List, [], ◌∷◌, ◌++◌, ltb, length, Ok, Err}
 use Rattle.terms.specs.declared.Settings.{Settings}
 use Rattle.terms.specs.declared.Refusal.TheVariants.{RoomTooShort, ListFull}
-use Rattle.terms.specs.declared.Answer.{Answer}
-use Rattle.terms.specs.declared.Answer.TheVariants.{Wrote, Refused}
+use Rattle.terms.specs.Answers.{Answer}
 use Rattle.terms.specs.Answers.{room_for}
 use Rattle.terms.specs.Rows.{Row, row, verdict, ruled, leaves}
 use Rattle.lists.specs.Written.{guard, written_list}
@@ -20,7 +19,7 @@ merge_rows settings n size width board room =
     ++ (guard (board_walk settings n size width board) room ∷ [])))
 
 unfoldable pub merge_answer : (settings : Settings) (n size width : ℕ) (board : List ℕ) (room : ℕ) → Answer
-merge_answer settings n size width board room = ruled (verdict (merge_rows settings n size width board room)) Refused (Wrote (length (board_walk settings n size width board)))
+merge_answer settings n size width board room = ruled (verdict (merge_rows settings n size width board room)) Err (Ok (length (board_walk settings n size width board)))
 
 unfoldable pub merge_leaves : (settings : Settings) (n size width : ℕ) (board list : List ℕ) → List ℕ
 merge_leaves settings n size width board list =

@@ -1,9 +1,8 @@
 -- Recording a segment, into a bay lent alone or into its bay of a whole board: document 01, "Segments and the board" and "Numbers answered".
-use Rattle.std.specs.Prelude.{ℕ, ◌+◌, ◌-◌, ◌*◌, Bool, not, List, [], ◌∷◌, ◌++◌, leb, length, take, drop}
+use Rattle.std.specs.Prelude.{ℕ, ◌+◌, ◌-◌, ◌*◌, Bool, not, List, [], ◌∷◌, ◌++◌, leb, length, take, drop, Ok, Err}
 use Rattle.laws.specs.Over.{over}
 use Rattle.terms.specs.declared.Refusal.TheVariants.{RecordTooLong}
-use Rattle.terms.specs.declared.Answer.{Answer}
-use Rattle.terms.specs.declared.Answer.TheVariants.{Wrote, Refused}
+use Rattle.terms.specs.Answers.{Answer}
 use Rattle.terms.specs.declared.Settings.{Settings}
 use Rattle.terms.specs.Answers.{unless}
 use Rattle.terms.specs.Rows.{Row, row, verdict, ruled, leaves}
@@ -35,7 +34,7 @@ record_rows settings log size width i =
 -- 2 plus the offsets
 unfoldable pub record_answer : (settings : Settings) (log : List ℕ) (size width i : ℕ) → Answer
 record_answer settings log size width i =
-    ruled (verdict (record_rows settings log size width i)) Refused (Wrote (2 + length (segment_of settings log size i).offsets))
+    ruled (verdict (record_rows settings log size width i)) Err (Ok (2 + length (segment_of settings log size i).offsets))
 
 unfoldable pub record_leaves : (settings : Settings) (log : List ℕ) (size i : ℕ) (bay : List ℕ) → List ℕ
 record_leaves settings log size i bay =
@@ -48,7 +47,7 @@ segment_rows settings log size width i numbers =
 
 unfoldable pub segment_answer : (settings : Settings) (log : List ℕ) (size width i numbers : ℕ) → Answer
 segment_answer settings log size width i numbers =
-    ruled (verdict (segment_rows settings log size width i numbers)) Refused (Wrote (2 + length (segment_of settings log size i).offsets))
+    ruled (verdict (segment_rows settings log size width i numbers)) Err (Ok (2 + length (segment_of settings log size i).offsets))
 
 unfoldable pub segment_leaves : (settings : Settings) (log : List ℕ) (size width i : ℕ) (board : List ℕ) → List ℕ
 segment_leaves settings log size width i board =

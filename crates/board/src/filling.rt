@@ -1,27 +1,26 @@
 // A record put into its bay.
-ghost use Rattle.std.specs.Prelude.{◌≡◌, true, ◌≤◌, length};
-ghost use Rattle.terms.specs.Settings.{in_range};
-ghost use Rattle.board_bays.specs.Segments.{There};
+ghost use Rattle.std.specs.Prelude.{◌≡◌, ◌≤◌, length};
 ghost use Rattle.board_record.specs.Records.{segment_of};
 ghost use Rattle.board.specs.Recording.{recorded};
 ghost use Rattle.board.specs.Inner.{filled_answer};
 
-use terms::{Answer, Refusal, Settings};
+use board_bays::segments::Segment;
+use terms::{Answer, Checked, Refusal};
 
-// Records a segment that is there into its bay.
-pub fn fill_bay(settings: Settings, log: &[u8], size: u64, i: u64, bay: &mut [u64]) -> Answer
-    requires { (in_range settings ≡ true) × There (length log.now) size i × (2 ≤ length bay.old) }
-    ensures answer { result ≡ filled_answer (segment_of settings log.now size i) (length bay.old) }
-    ensures bay { bay.new ≡ recorded (segment_of settings log.now size i) bay.old }
+// Records a segment of the log into its bay.
+pub fn fill_bay(rule: Checked, log: &[u8], segment: Segment, bay: &mut [u64]) -> Answer
+    requires { (segment.n ≡ length log.now) × (2 ≤ length bay.old) }
+    ensures answer { result ≡ filled_answer (segment_of rule.settings log.now segment.size segment.i) (length bay.old) }
+    ensures bay { bay.new ≡ recorded (segment_of rule.settings log.now segment.size segment.i) bay.old }
 {
     let places = bay.len() as u64 - 2;
-    let recorded = board_record::record_segment(settings, log, size, i, &mut bay[2..]);
+    let recorded = board_record::record_segment(rule, log, segment, &mut bay[2..]);
     if recorded.count > places {
         bay[0] = 0;
         bay[1] = 0;
-        return Answer::Refused(Refusal::RecordTooLong);
+        return Err(Refusal::RecordTooLong);
     }
     bay[0] = recorded.count + 1;
     bay[1] = recorded.marker;
-    Answer::Wrote(recorded.count + 2)
+    Ok(recorded.count + 2)
 }

@@ -6,7 +6,9 @@ ghost use Rattle.std.specs.Prelude.{◌≡◌, length};
 ghost use Rattle.board.specs.Recording.{record_answer, record_leaves, segment_answer, segment_leaves};
 ghost use Rattle.board.specs.Merging.{merge_answer, merge_leaves};
 
-use terms::{Answer, Refusal, Settings, Verdict};
+use board_bays::segments::{Board, Segment};
+use board_bays::shapes::{bay_fits, board_fits, judge, segment_fits};
+use terms::{Answer, Checked, Refusal, Settings};
 
 mod filling;
 
@@ -23,14 +25,12 @@ pub fn segment(
     ensures board { board.new ≡ segment_leaves settings log.now size width i board.old }
 {
     let n = log.len() as u64;
-    let fits = board_bays::shapes::segment_fits(n, size, width, i, board.len() as u64);
-    match board_bays::shapes::judge(settings, n, fits) {
-        Verdict::Wrong(why) => return Answer::Refused(why),
-        Verdict::Fine => {}
-    }
+    let fits = segment_fits(n, size, width, i, board.len() as u64);
+    judge(settings, n, fits)?;
+    // As board_bays::reading::bay_at reads it; one function cannot lend both a `&` and a `&mut`.
     let start = (i * width) as usize;
     let bay = &mut board[start..start + width as usize];
-    filling::fill_bay(settings, log, size, i, bay)
+    filling::fill_bay(Checked { settings }, log, Segment { n, size, i }, bay)
 }
 
 // Records segment i into a bay lent alone.
@@ -39,12 +39,9 @@ pub fn record(settings: Settings, log: &[u8], size: u64, i: u64, bay: &mut [u64]
     ensures bay { bay.new ≡ record_leaves settings log.now size i bay.old }
 {
     let n = log.len() as u64;
-    let fits = board_bays::shapes::bay_fits(n, size, bay.len() as u64, i);
-    match board_bays::shapes::judge(settings, n, fits) {
-        Verdict::Wrong(why) => return Answer::Refused(why),
-        Verdict::Fine => {}
-    }
-    filling::fill_bay(settings, log, size, i, bay)
+    let fits = bay_fits(n, size, bay.len() as u64, i);
+    judge(settings, n, fits)?;
+    filling::fill_bay(Checked { settings }, log, Segment { n, size, i }, bay)
 }
 
 // Merges the bays into the log's list of cuts. The log itself is not needed, only its length; all bays are judged before the first cut is written.
@@ -59,23 +56,22 @@ pub fn merge(
     ensures answer { result ≡ merge_answer settings n size width board.now (length list.old) }
     ensures list { list.new ≡ merge_leaves settings n size width board.now list.old }
 {
-    let fits = board_bays::shapes::board_fits(n, size, width, board.len() as u64);
-    match board_bays::shapes::judge(settings, n, fits) {
-        Verdict::Wrong(why) => return Answer::Refused(why),
-        Verdict::Fine => {}
-    }
+    let fits = board_fits(n, size, width, board.len() as u64);
+    judge(settings, n, fits)?;
     let places = list.len() as u64;
-    let minimum = settings.minimum;
-    if places < n / minimum + 1 {
-        return Answer::Refused(Refusal::RoomTooShort);
+    if places < n / settings.minimum + 1 {
+        return Err(Refusal::RoomTooShort);
     }
-    match board_bays::judging::judge_bays(settings, n, size, width, board) {
-        Verdict::Wrong(why) => return Answer::Refused(why),
-        Verdict::Fine => {}
-    }
-    let count = board_walk::walk_board(list, settings, n, size, width, board);
+    let bays = Board {
+        n,
+        size,
+        width,
+        numbers: board,
+    };
+    board_bays::judging::judge_bays(settings, &bays)?;
+    let count = board_walk::walk_board(list, Checked { settings }, &bays);
     if count > places {
-        return Answer::Refused(Refusal::ListFull);
+        return Err(Refusal::ListFull);
     }
-    Answer::Wrote(count)
+    Ok(count)
 }

@@ -1,17 +1,18 @@
 -- The segments of a log follow one another from 0 to its end.
 use Prim.Native.Nat.{ℕ, suc, ◌+◌, ◌-◌, ◌*◌, ◌/◌, ◌%◌, ◌^◌, ◌≤◌, ◌<◌, min}
-use mathlib.Core.Path.{◌≡◌, sym, ap}
-use native.Mathlib.Nat.{mul-le-mul_right, le-div_iff_mul-le, lt-div-mul-add, div-add-mod', div-eq_of_lt-le, mod-lt, suc-mul, zero-mul}
+use mathlib.Core.Path.{◌≡◌, sym, ap, ◌∙◌}
+use native.Mathlib.Nat.{add-zero, mul-le-mul_right, le-div_iff_mul-le, lt-div-mul-add, div-add-mod', div-eq_of_lt-le, mod-lt, suc-mul, zero-mul}
 use native.Mathlib.Numerals.{add-one}
 use native.Mathlib.Omega.{arith}
 use mathlib.Core.List.{List}
 use lib.ListN.{length, take, drop, length-take, length-drop}
 use mathlib.Core.Bool.{true}
-use borrow.Author.Tests.{leb-true}
-use Rattle.laws.proofs.Cases.{by_lt, both_true}
+use lib.Dec.{leb}
+use borrow.Author.Tests.{leb-true, leb-false, le-leb, lt-leb}
+use Rattle.laws.proofs.Cases.{by_lt, by_test, both_true}
 use Rattle.laws.proofs.Slices.{part_lent}
 use Rattle.board_bays.specs.Bays.{bay_of}
-use Rattle.board_bays.specs.Segments.{segments, segment_start, segment_end, size_in_range, shape_fits, board_fits}
+use Rattle.board_bays.specs.Segments.{segments, segment_start, segment_end, size_in_range, shape_fits, board_fits, There}
 
 -- what a shape that fits says
 pub sizes : (size width : ℕ) → shape_fits size width ≡ true → (64 ≤ size) × (size ≤ 16_777_216) × (2 ≤ width)
@@ -22,12 +23,12 @@ sizes size width t =
     (leb-true _ _ b.0, leb-true _ _ b.1, leb-true _ _ a.1)
 
 -- a board as long as its bays, compared by dividing
-module _ (width numbers count given : ℕ) (wide : 2 ≤ width) (e : given ≡ count) where
-  pub long_enough : given ≤ numbers / width → count * width ≤ numbers
-  long_enough h = (le-div_iff_mul-le {k = width} {x = count} {y = numbers} (omega arith)).0 (omega arith)
-
-  pub too_few : numbers / width < given → numbers < count * width
-  too_few h = by_lt numbers (count * width) (λ k. k) (λ k. absurd (omega (arith, (le-div_iff_mul-le {k = width} {x = count} {y = numbers} (omega arith)).1 k)))
+pub enough_is : (width numbers count given : ℕ) → 2 ≤ width → given ≡ count → leb given (numbers / width) ≡ leb (count * width) numbers
+enough_is width numbers count given wide e =
+    let same = le-div_iff_mul-le {k = width} {x = count} {y = numbers} (omega arith) in
+    by_test (leb (count * width) numbers)
+    (λ t. le-leb _ _ (rw e (same.1 (leb-true _ _ t))) ∙ sym t)
+    (λ f. lt-leb _ _ (by_lt (numbers / width) given (λ k. k) (λ k. absurd (omega (arith, leb-false _ _ f, same.0 (rw e at k))))) ∙ sym f)
 
 -- what a board that fits says
 pub record BoardShape (n size width numbers : ℕ) : Type 0 where
@@ -93,20 +94,21 @@ module _ (n size : ℕ) (positive : 0 < size) where
   one_times_more : (k : ℕ) → (k + 1) * size ≡ k * size + size
   one_times_more k = rw add-one (suc-mul k size)
 
-  -- rounded up, as the code rounds
-  pub exactly : n % size ≡ 0 → n / size ≡ segments n size
+  -- rounded up, as the library rounds
+  pub rounded_up : n / size + min 1 (n % size) ≡ segments n size
   unfolding segments
-  exactly e =
+  rounded_up =
       let parts = div-add-mod' n size in
-      sym (div-eq_of_lt-le size (omega arith) (omega (arith, one_times_more (n / size))))
-
-  pub rounded : (n % size ≡ 0 → ⊥) → n / size + 1 ≡ segments n size
-  unfolding segments
-  rounded ne =
-      let parts = div-add-mod' n size in
-      let some : 0 < n % size = omega (arith, ne) in
       let part : n % size < size = mod-lt n positive in
-      sym (div-eq_of_lt-le size (omega (arith, one_times_more (n / size))) (omega (arith, one_times_more (n / size), one_times_more (n / size + 1))))
+      by_lt 0 (n % size)
+      (λ some. let one : min 1 (n % size) ≡ 1 = omega arith in
+      rw one (sym (div-eq_of_lt-le size (omega (arith, one_times_more (n / size))) (omega (arith, one_times_more (n / size), one_times_more (n / size + 1))))))
+      (λ none. let no : min 1 (n % size) ≡ 0 = omega arith in
+      rw no (add-zero (n / size) ∙ sym (div-eq_of_lt-le size (omega arith) (omega (arith, one_times_more (n / size))))))
+
+-- a segment that is there begins in the log
+pub begins_in : {n size i : ℕ} → There n size i → segment_start size i < n
+begins_in {n} {size} {i} there = let positive : 0 < size = omega (arith, there.large) in starts n size positive i there.there
 
 -- bay i as the code lends it
 pub bay_lent : (width i : ℕ) (board : List ℕ) → take (i * width + width - i * width) (drop (i * width) board) ≡ bay_of width i board

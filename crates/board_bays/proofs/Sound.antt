@@ -1,16 +1,16 @@
 -- Judging a whole bay, and the bays one by one.
+use Rattle.std.specs.Prelude.{Ok, Err}
 use mathlib.Core.Path.{◌≡◌, sym, ap, ◌∙◌}
 use mathlib.Core.Bool.{true, false, ◌&&◌}
 use mathlib.Core.List.{List}
-use Prim.Native.Nat.{ℕ, suc, ◌+◌, ◌-◌, ◌*◌, ◌≤◌, ◌<◌, min}
+use Prim.Native.Nat.{ℕ, suc, ◌+◌, ◌-◌, ◌≤◌, ◌<◌}
 use native.Mathlib.Omega.{arith}
 use native.Mathlib.Numerals.{add-one}
 use lib.ListN.{length, get_or}
 use borrow.Author.Tests.{le-leb, lt-leb, lt-ltb, le-ltb, ltb-true}
 use Rattle.terms.specs.declared.Settings.{Settings}
 use Rattle.terms.specs.declared.Refusal.{Refusal}
-use Rattle.terms.specs.declared.Verdict.{Verdict}
-use Rattle.terms.specs.declared.Verdict.TheVariants.{Fine, Wrong}
+use Rattle.terms.specs.Rows.{Verdict}
 use Rattle.terms.specs.Rows.{verdict, ruled}
 use Rattle.terms.proofs.Verdicts.{joined}
 use Rattle.board_bays.specs.Judging.{bay_rows, bays_rows}
@@ -22,11 +22,12 @@ module _ (s : Settings) (n size i : ℕ) (bay : List ℕ) where
   unfolding is_sound offset_count
   too_many h = rw (lt-leb _ _ h)
 
-  -- the segment's end and the offsets as the code has them
-  pub sound_is : get_or bay 0 0 - 1 ≤ length bay - 2 → (e : ℕ) → e ≡ min (i * size + size) n → (offsets : List ℕ) → offsets ≡ (record_in bay).offsets
-      → is_sound s n size i bay ≡ rises_within (i * size) e offsets && marker_fits s.minimum s.maximum i (record { marker = get_or bay 1 0; offsets = offsets })
-  unfolding is_sound offset_count record_in segment_start segment_end
-  sound_is few e ends offsets are = rw (le-leb _ _ few, ends, are)
+  -- the segment's ends and the record as the code has them
+  pub sound_is : get_or bay 0 0 - 1 ≤ length bay - 2 → (a : ℕ) → a ≡ segment_start size i → (e : ℕ) → e ≡ segment_end n size i
+      → (marker : ℕ) → marker ≡ (record_in bay).marker → (offsets : List ℕ) → offsets ≡ (record_in bay).offsets
+      → is_sound s n size i bay ≡ rises_within a e offsets && marker_fits s.minimum s.maximum i (record { marker = marker; offsets = offsets })
+  unfolding is_sound offset_count
+  sound_is few a starts e ends marker is-marker offsets are = rw (le-leb _ _ few, starts, ends, is-marker, are)
 
 -- entry 0
 pub some_entry : (bay : List ℕ) → is_done bay ≡ true → 1 ≤ get_or bay 0 0
@@ -44,19 +45,19 @@ not_done bay h = le-ltb 0 (get_or bay 0 0) (omega arith)
 -- the bays from bay i on, of so many, as the code judges them
 module _ (s : Settings) (n size width : ℕ) (board : List ℕ) (count i : ℕ) where
   module _ (h : i < count) (bay : List ℕ) (is-bay : bay ≡ bay_of width i board) (v : Verdict) (told : v ≡ verdict (bay_rows s n size i bay)) where
-    opened : verdict (bays_rows s n size width board (count - i) i) ≡ ruled v Wrong (verdict (bays_rows s n size width board (count - (i + 1)) (i + 1)))
+    opened : verdict (bays_rows s n size width board (count - i) i) ≡ ruled v Err (verdict (bays_rows s n size width board (count - (i + 1)) (i + 1)))
     unfolding bays_rows
     opened =
         let left : count - i ≡ suc (count - (i + 1)) = omega arith in
         rw (left, told, is-bay, add-one) (joined (bay_rows s n size i (bay_of width i board)) _)
 
-    pub judged_on : v ≡ Fine → verdict (bays_rows s n size width board (count - i) i) ≡ verdict (bays_rows s n size width board (count - (i + 1)) (i + 1))
+    pub judged_on : v ≡ Ok tt → verdict (bays_rows s n size width board (count - i) i) ≡ verdict (bays_rows s n size width board (count - (i + 1)) (i + 1))
     judged_on e = opened ∙ rw e
 
-    pub bay_wrong : (why : Refusal) → v ≡ Wrong why → verdict (bays_rows s n size width board (count - i) i) ≡ Wrong why
+    pub bay_wrong : (why : Refusal) → v ≡ Err why → verdict (bays_rows s n size width board (count - i) i) ≡ Err why
     bay_wrong why e = opened ∙ rw e
 
-  pub judged_all : count ≤ i → verdict (bays_rows s n size width board (count - i) i) ≡ Fine
+  pub judged_all : count ≤ i → verdict (bays_rows s n size width board (count - i) i) ≡ Ok tt
   unfolding bays_rows verdict
   judged_all h = let none : count - i ≡ 0 = omega arith in rw none
 

@@ -1,26 +1,27 @@
 -- What a table in which no row holds says of its rows.
+use Rattle.std.specs.Prelude.{Ok}
 use Prim.Native.Nat.{ℕ, zero, suc, ◌+◌, ◌-◌, ◌≤◌, ◌<◌}
-use mathlib.Core.Path.{◌≡◌, refl, sym, ap, ◌∙◌}
+use mathlib.Core.Path.{◌≡◌, refl, sym, ap, ◌∙◌, subst}
 use mathlib.Core.Bool.{Bool, true}
 use mathlib.Core.List.{List}
+use native.Mathlib.Nat.{zero-add}
 use native.Mathlib.Omega.{arith}
 use lib.ListN.{length}
 use borrow.Author.Tests.{leb-true, ltb-false, not-false}
 use Rattle.laws.proofs.Cases.{both_true}
 use Rattle.terms.specs.declared.Settings.{Settings}
 use Rattle.terms.specs.declared.Refusal.TheVariants.{RecordTooLong, ListFull}
-use Rattle.terms.specs.declared.Verdict.{Verdict}
-use Rattle.terms.specs.declared.Verdict.TheVariants.{Fine}
+use Rattle.terms.specs.Rows.{Verdict}
 use Rattle.terms.specs.Rows.{verdict, lacks}
 use Rattle.terms.proofs.Verdicts.{clear, both_clear}
 use Rattle.terms.specs.Settings.{in_range}
 use Rattle.terms.specs.Answers.{longest}
-use Rattle.board_bays.specs.Segments.{segment_start, segment_end}
+use Rattle.board_bays.specs.Segments.{segments, segment_start, segment_end}
 use Rattle.board_bays.specs.Bays.{bay_of, is_done, offset_count, record_in, rises_within, marker_fits, is_sound}
 use Rattle.board_bays.specs.Judging.{call_rows, bay_rows, bays_rows}
 
 -- rows 1, 2 and 7
-pub passed : (s : Settings) (n : ℕ) (fits : Bool) → verdict (call_rows s n fits) ≡ Fine → (in_range s ≡ true) × (n ≤ longest) × (fits ≡ true)
+pub passed : (s : Settings) (n : ℕ) (fits : Bool) → verdict (call_rows s n fits) ≡ Ok tt → (in_range s ≡ true) × (n ≤ longest) × (fits ≡ true)
 unfolding call_rows
 passed s n fits v =
     let a = clear _ _ _ v in
@@ -49,7 +50,7 @@ sound_bay s n size i bay d t =
     let b = both_true a.1 in
     record { done = d; few = leb-true _ _ a.0; rises = b.0; fits = b.1 }
 
-pub done_bay : (s : Settings) (n size i : ℕ) (bay : List ℕ) → verdict (bay_rows s n size i bay) ≡ Fine → Judged s n size i bay
+pub done_bay : (s : Settings) (n size i : ℕ) (bay : List ℕ) → verdict (bay_rows s n size i bay) ≡ Ok tt → Judged s n size i bay
 unfolding bay_rows
 done_bay s n size i bay v =
     let a = clear _ _ _ v in
@@ -62,7 +63,7 @@ module _ (s : Settings) (n size width : ℕ) (board : List ℕ) where
   plain_bays zero i = refl
   plain_bays (suc k) i = plain_bays k (suc i)
 
-  pub each_done : (k i j : ℕ) → j < k → verdict (bays_rows s n size width board k i) ≡ Fine → Judged s n size (i + j) (bay_of width (i + j) board)
+  each_done : (k i j : ℕ) → j < k → verdict (bays_rows s n size width board k i) ≡ Ok tt → Judged s n size (i + j) (bay_of width (i + j) board)
   unfolding bays_rows
   each_done zero i j h v = absurd (omega arith)
   each_done (suc k) i zero h v =
@@ -71,3 +72,7 @@ module _ (s : Settings) (n size width : ℕ) (board : List ℕ) where
   each_done (suc k) i (suc j) h v =
       let there : i + suc j ≡ suc i + j = omega arith in
       rw there (each_done k (suc i) j (omega arith) (both_clear (bay_rows s n size i (bay_of width i board)) (bays_rows s n size width board k (suc i)) v).1)
+
+  -- of all bays, judged from bay 0 on
+  pub judged_bay : verdict (bays_rows s n size width board (segments n size) 0) ≡ Ok tt → (i : ℕ) → i < segments n size → Judged s n size i (bay_of width i board)
+  judged_bay fine i h = subst (λ j. Judged s n size j (bay_of width j board)) (zero-add i) (each_done (segments n size) 0 i h fine)

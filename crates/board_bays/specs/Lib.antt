@@ -1,3 +1,4 @@
 pub mod Segments
 pub mod Bays
 pub mod Judging
+pub mod Inner

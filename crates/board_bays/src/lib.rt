@@ -3,4 +3,5 @@
 
 pub mod judging;
 pub mod reading;
+pub mod segments;
 pub mod shapes;

@@ -1,4 +1,5 @@
 -- A true board is never refused by 8 or 9: a bay that holds its segment's record is done and not malformed.
+use Rattle.std.specs.Prelude.{Ok}
 use Prim.Native.Nat.{ℕ, zero, suc, ◌+◌, ◌-◌, ◌≤◌, ◌<◌}
 use mathlib.Core.Path.{◌≡◌, refl, ap, ◌∙◌}
 use mathlib.Core.Bool.{Bool, true, false, not}
@@ -13,7 +14,6 @@ use Rattle.rule.specs.Rule.{hop, cuts_up_to}
 use Rattle.rule.proofs.Hops.{UpTo, past, leap, up_to, hop_rises, hop_long}
 use Rattle.lists.specs.WellFormed.{step_fits}
 use Rattle.terms.specs.declared.Settings.{Settings}
-use Rattle.terms.specs.declared.Verdict.TheVariants.{Fine}
 use Rattle.terms.specs.Rows.{verdict}
 use Rattle.terms.proofs.Verdicts.{top, past, reached}
 use Rattle.cutting.specs.Marks.{mark}
@@ -128,7 +128,7 @@ module _ (s : Settings) (positive : 0 < s.minimum) (order : s.minimum ≤ s.maxi
       )
 
   module _ (width : ℕ) (board : List ℕ) (held : (i : ℕ) → i < segments (length log) size → Holds (bay_of width i board) (segment_of s log size i)) where
-    from_bay : (k i : ℕ) → i + k ≡ segments (length log) size → verdict (bays_rows s (length log) size width board k i) ≡ Fine
+    from_bay : (k i : ℕ) → i + k ≡ segments (length log) size → verdict (bays_rows s (length log) size width board k i) ≡ Ok tt
     unfolding bays_rows bay_rows
     from_bay zero i count = unfold verdict in refl
     from_bay (suc k) i count =
@@ -137,5 +137,5 @@ module _ (s : Settings) (positive : 0 < s.minimum) (order : s.minimum ≤ s.maxi
         reached (past (ap not (done bay _ (held i here))) (past (ap not (sound i here bay (held i here))) top))
         ∙ from_bay k (suc i) (omega arith)
 
-    pub true_bays_accepted : verdict (bays_rows s (length log) size width board (segments (length log) size) 0) ≡ Fine
+    pub true_bays_accepted : verdict (bays_rows s (length log) size width board (segments (length log) size) 0) ≡ Ok tt
     true_bays_accepted = from_bay (segments (length log) size) 0 (omega arith)

@@ -1,9 +1,10 @@
 -- Merging any board that was judged, true or not: the list is the one-pass rule's over the offsets that the board lists.
+use Rattle.std.specs.Prelude.{Ok}
 use Prim.Native.Nat.{ℕ, zero, suc, ◌+◌, ◌-◌, ◌/◌, ◌^◌, ◌≤◌, ◌<◌}
 use mathlib.Core.Path.{◌≡◌, refl, sym, ap, ◌∙◌, subst}
 use mathlib.Core.Bool.{Bool, true, false, ◌&&◌, ◌||◌}
 use mathlib.Core.List.{List, [], ◌∷◌}
-use native.Mathlib.Nat.{zero-add, zero-mul, suc-mul, sub-zero, div-eq_of_lt-le}
+use native.Mathlib.Nat.{zero-mul, suc-mul, sub-zero, div-eq_of_lt-le}
 use native.Mathlib.Omega.{arith}
 use lib.Dec.{leb, ltb, eqb}
 use borrow.Author.Tests.{leb-true, ltb-true, eqb-true, eq-eqb, ne_eqb}
@@ -18,13 +19,12 @@ use Rattle.rule.specs.Rule.{last_or, cuts, Unmarked}
 use Rattle.rule.proofs.Hops.{last_is}
 use Rattle.lists.specs.WellFormed.{step_fits}
 use Rattle.terms.specs.declared.Settings.{Settings}
-use Rattle.terms.specs.declared.Verdict.TheVariants.{Fine}
 use Rattle.terms.specs.Rows.{verdict}
 use Rattle.board_bays.specs.Segments.{segments, segment_start, segment_end}
 use Rattle.board_bays.specs.Bays.{Record, bay_of, record_in, rises_within, is_listed, followers, steps_within, from_marker, marker_fits}
 use Rattle.board_bays.specs.Judging.{bays_rows}
 use Rattle.board_bays.proofs.Ranges.{reach, from_reach, to_reach, reach_none, spans}
-use Rattle.board_bays.proofs.Verdicts.{Judged, each_done}
+use Rattle.board_bays.proofs.Verdicts.{Judged, judged_bay}
 use Rattle.board_walk.specs.Walk.{read_offset, read_as_marks, bay_cuts, board_walk}
 use Rattle.board_merged.specs.Listed.{listed_on}
 use Rattle.board_walk.proofs.Rises.{risen}
@@ -114,15 +114,15 @@ module _ (mark : ℕ → Bool) (lo hi : ℕ) (positive : 0 < lo) (order : lo ≤
           (λ other. let after : followers marker (b ∷ l) ≡ followers marker l = unfold followers in rw (other, followers) in rw (← after) fit)
 
 module _ (s : Settings) (positive : 0 < s.minimum) (order : s.minimum ≤ s.maximum) (n size width : ℕ) (board : List ℕ) (sized : 0 < size)
-    (fine : verdict (bays_rows s n size width board (segments n size) 0) ≡ Fine) where
+    (fine : verdict (bays_rows s n size width board (segments n size) 0) ≡ Ok tt) where
   abbrev bay : ℕ → Record
   bay i = record_in (bay_of width i board)
 
   abbrev marks : ℕ → Bool
   marks = listed_on size width board
 
-  judged_bay : (i : ℕ) → i < segments n size → Judged s n size i (bay_of width i board)
-  judged_bay i h = subst (λ j. Judged s n size j (bay_of width j board)) (zero-add i) (each_done s n size width board (segments n size) 0 i h fine)
+  judged : (i : ℕ) → i < segments n size → Judged s n size i (bay_of width i board)
+  judged = judged_bay s n size width board fine
 
   own : (i q : ℕ) → segment_start size i < q → q ≤ segment_end n size i → marks q ≡ is_listed q (bay i).offsets
   unfolding listed_on segment_start segment_end
@@ -130,7 +130,7 @@ module _ (s : Settings) (positive : 0 < s.minimum) (order : s.minimum ≤ s.maxi
       let place : (q - 1) / size ≡ i = div-eq_of_lt-le size (omega arith) (omega (arith, suc-mul i size)) in ap (λ j. is_listed q (bay j).offsets) place
 
   bay_marks : (i : ℕ) → i < segments n size → Marks marks (segment_end n size i) (segment_start size i) (bay i).offsets
-  bay_marks i h = rising_marks marks (bay i).offsets (segment_start size i) (segment_end n size i) (judged_bay i h).rises (own i)
+  bay_marks i h = rising_marks marks (bay i).offsets (segment_start size i) (segment_end n size i) (judged i h).rises (own i)
 
   read_bay : (i c : ℕ) → i < segments n size → c ≤ reach n size i → Unmarked marks (c + s.minimum) (suc (reach n size i))
       → (m : ℕ) × Walked marks s.minimum s.maximum c (reach n size (suc i)) (bay_cuts s.minimum s.maximum i c (bay i)) m
@@ -138,7 +138,7 @@ module _ (s : Settings) (positive : 0 < s.minimum) (order : s.minimum ≤ s.maxi
   read_bay zero c h below clear =
       let start : c ≡ 0 = omega (arith, reach_none n size sized) in
       let first : segment_start size 0 ≡ 0 = unfold segment_start in zero-mul size in
-      let both : (eqb (bay 0).marker 0 ≡ true) × (steps_within s.minimum s.maximum 0 (bay 0).offsets ≡ true) = both_true (unfold marker_fits in (judged_bay 0 h).fits) in
+      let both : (eqb (bay 0).marker 0 ≡ true) × (steps_within s.minimum s.maximum 0 (bay 0).offsets ≡ true) = both_true (unfold marker_fits in (judged 0 h).fits) in
       rw (start, ← to_reach n size sized 0)
       (_, taken marks s.minimum s.maximum positive order (segment_end n size 0) (omega arith) (rw first at (bay_marks 0 h)) both.1)
   read_bay (suc i) c h below clear =
@@ -146,7 +146,7 @@ module _ (s : Settings) (positive : 0 < s.minimum) (order : s.minimum ≤ s.maxi
       let within = spans n size sized (suc i) h in
       let both : (eqb (bay (suc i)).marker 0 || is_listed (bay (suc i)).marker (bay (suc i)).offsets ≡ true)
       × (steps_within s.minimum s.maximum (bay (suc i)).marker (followers (bay (suc i)).marker (bay (suc i)).offsets) ≡ true) =
-      both_true (unfold marker_fits from_marker in (judged_bay (suc i) h).fits) in
+      both_true (unfold marker_fits from_marker in (judged (suc i) h).fits) in
       rw (← to_reach n size sized (suc i))
       (read marks s.minimum s.maximum positive order (segment_end n size (suc i)) (bay (suc i)).marker (bay_marks (suc i) h) c (omega arith) (omega arith) (rw begins clear) both.1)
 

@@ -1,11 +1,11 @@
 -- A board whose bays hold their segments' records, in whatever order they were recorded: the walk over it is the log's list of cuts.
+use Rattle.std.specs.Prelude.{Ok}
 use Prim.Native.Nat.{ℕ, ◌≤◌, ◌<◌}
 use mathlib.Core.Path.{◌≡◌}
 use mathlib.Core.Bool.{true}
 use mathlib.Core.List.{List, Memᴰ}
 use lib.ListN.{length}
 use Rattle.terms.specs.declared.Settings.{Settings}
-use Rattle.terms.specs.declared.Verdict.TheVariants.{Fine}
 use Rattle.terms.specs.Rows.{verdict}
 use Rattle.cutting.specs.Marks.{mark, cut_list}
 use Rattle.board_bays.specs.Segments.{segments, segment_fits}
@@ -30,7 +30,7 @@ module _ (s : Settings) (positive : 0 < s.minimum) (order : s.minimum ≤ s.maxi
   -- calls that are granted, whose records fit, and among which each segment is
   pub recorded-merged : (calls board : List ℕ)
       → ((i : ℕ) → i < segments (length log) size
-      → (verdict (call_rows s (length log) (segment_fits (length log) size width i (length board))) ≡ Fine) × (record_fits (segment_of s log size i) width ≡ true)
+      → (verdict (call_rows s (length log) (segment_fits (length log) size width i (length board))) ≡ Ok tt) × (record_fits (segment_of s log size i) width ≡ true)
       × Memᴰ i calls)
       → board_walk s (length log) size width (record_all s log size width calls board) ≡ cut_list s log
   recorded-merged calls board all =

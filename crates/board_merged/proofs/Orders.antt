@@ -1,4 +1,5 @@
 -- Segment calls in any order: a call changes no other bay, so that a permutation of the calls gives the same board, and what all of them leave is a true board.
+use Rattle.std.specs.Prelude.{Ok}
 use Prim.Native.Nat.{ℕ, ◌+◌, ◌-◌, ◌*◌, ◌≤◌, ◌<◌}
 use mathlib.Core.Path.{◌≡◌, refl, sym, ap, ap₂, ◌∙◌}
 use mathlib.Core.Bool.{true}
@@ -15,8 +16,7 @@ use Rattle.laws.specs.Over.{over}
 use Rattle.laws.proofs.Cases.{by_lt, by_test, both_true}
 use Rattle.laws.proofs.Writing.{length_over}
 use Rattle.terms.specs.declared.Settings.{Settings}
-use Rattle.terms.specs.declared.Verdict.{Verdict}
-use Rattle.terms.specs.declared.Verdict.TheVariants.{Fine}
+use Rattle.terms.specs.Rows.{Verdict}
 use Rattle.terms.specs.declared.Refusal.TheVariants.{RecordTooLong}
 use Rattle.terms.specs.Rows.{verdict, ruled}
 use Rattle.terms.proofs.Verdicts.{by_verdict, left_by}
@@ -65,7 +65,7 @@ module _ (s : Settings) (log : List ℕ) (size width : ℕ) where
   abbrev stores : ℕ → List ℕ → List ℕ
   stores i board = storing i (length board) (bay_of width i board)
 
-  module _ (i : ℕ) (board : List ℕ) (v : shape i (length board) ≡ Fine) where
+  module _ (i : ℕ) (board : List ℕ) (v : shape i (length board) ≡ Ok tt) where
     shaped : BoardShape (length log) size width (length board) × (i < segments (length log) size)
     unfolding segment_fits
     shaped = let all = both_true (passed s (length log) _ v).2 in (board_shape (length log) size width (length board) all.0, ltb-true _ _ all.1)
@@ -109,7 +109,7 @@ module _ (s : Settings) (log : List ℕ) (size width : ℕ) where
   length_call i board = ap length (call_stores i board) ∙ length-sets board (i * width) (stores i board)
 
   -- a call that is not refused leaves the record in its own bay
-  pub own_written : (i : ℕ) (board : List ℕ) → verdict (call_rows s (length log) (segment_fits (length log) size width i (length board))) ≡ Fine
+  pub own_written : (i : ℕ) (board : List ℕ) → verdict (call_rows s (length log) (segment_fits (length log) size width i (length board))) ≡ Ok tt
       → (bay_of width i (segment_leaves s log size width i board) ≡ recorded (segment_of s log size i) (bay_of width i board))
       × (length (bay_of width i board) ≡ width)
   own_written i board v =
@@ -155,14 +155,14 @@ module _ (s : Settings) (log : List ℕ) (size width : ℕ) where
 
   -- a segment whose record fits its bay, on boards that are not refused
   module _ (i : ℕ) (fits : record_fits (segment_of s log size i) width ≡ true) where
-    wrote_holds : (board : List ℕ) → shape i (length board) ≡ Fine → Holds (bay_of width i (call i board)) (segment_of s log size i)
+    wrote_holds : (board : List ℕ) → shape i (length board) ≡ Ok tt → Holds (bay_of width i (call i board)) (segment_of s log size i)
     wrote_holds board v =
         let own = own_written i board v in
         rw own.0
         (recorded-holds (segment_of s log size i) (bay_of width i board) (ap (record_fits (segment_of s log size i)) own.1 ∙ fits))
 
     -- once recorded, a bay holds its record whatever calls follow
-    still_held : (calls board : List ℕ) → shape i (length board) ≡ Fine → Holds (bay_of width i board) (segment_of s log size i)
+    still_held : (calls board : List ℕ) → shape i (length board) ≡ Ok tt → Holds (bay_of width i board) (segment_of s log size i)
         → Holds (bay_of width i (record_all s log size width calls board)) (segment_of s log size i)
     unfolding record_all
     still_held [] board v h = h
@@ -172,7 +172,7 @@ module _ (s : Settings) (log : List ℕ) (size width : ℕ) where
         (λ e. rw e (wrote_holds board v))
         (λ other. rw (other_kept j i board other) h))
 
-    pub then_held : (calls board : List ℕ) → shape i (length board) ≡ Fine → Memᴰ i calls
+    pub then_held : (calls board : List ℕ) → shape i (length board) ≡ Ok tt → Memᴰ i calls
         → Holds (bay_of width i (record_all s log size width calls board)) (segment_of s log size i)
     unfolding record_all
     then_held [] board v m = elim m [ ]

@@ -1,5 +1,5 @@
 -- A segment's stretch of the log has the log's own marks there, so that what is recorded from it is the segment's record.
-use Prim.Native.Nat.{ℕ, zero, suc, ◌+◌, ◌-◌, ◌*◌, ◌^◌, ◌≤◌, ◌<◌, min}
+use Prim.Native.Nat.{ℕ, zero, suc, ◌+◌, ◌-◌, ◌*◌, ◌^◌, ◌≤◌, ◌<◌}
 use mathlib.Core.Path.{◌≡◌, refl, sym, ap, ◌∙◌, subst}
 use mathlib.Core.List.{List}
 use native.Mathlib.Nat.{mul-le-mul_right, one-mul}
@@ -44,15 +44,13 @@ module _ (s : Settings) (log : List ℕ) (base last : ℕ) (begins : base ≤ la
       (λ h. unfold mark_from in stretch_mark q (omega arith) high)
 
 -- segment i, whose end the code has at hand
-module _ (s : Settings) (log : List ℕ) (size i : ℕ) (there : There (length log) size i) (ok : Ranges s) (last : ℕ) (ends : last ≡ min (i * size + size) (length log)) where
-  end_is : segment_end (length log) size i ≡ last
+module _ (s : Settings) (log : List ℕ) (size i : ℕ) (there : There (length log) size i) (ok : Ranges s) (last : ℕ) (ends : last ≡ segment_end (length log) size i) where
+  pub inside : last ≤ length log
   unfolding segment_end
-  end_is = sym ends
-
-  inside : last ≤ length log
   inside = omega arith
 
-  starts_before : i * size < last
+  pub starts_before : i * size < last
+  unfolding segment_end
   starts_before = omega (arith, begins_below (length log) size (omega (arith, there.large)) i there.there, there.large)
 
   -- segment 0
@@ -63,7 +61,7 @@ module _ (s : Settings) (log : List ℕ) (size i : ℕ) (there : There (length l
     first_record =
         let long = stretch_long s log 0 last (omega arith) inside in
         let e : 0 + length (take (last - 0) (drop 0 log)) ≡ last = omega arith in
-        let end0 : segment_end (length log) size 0 ≡ last = ap (segment_end (length log) size) (sym first) ∙ end_is in
+        let end0 : segment_end (length log) size 0 ≡ last = ap (segment_end (length log) size) (sym first) ∙ sym ends in
         ap (λ (j : ℕ). segment_record (mark s log) s.minimum s.maximum (length log) size j) first
         ∙ ap {B = Record} (λ (l : List ℕ). record { marker = 0; offsets = l })
         (ap (λ (x : ℕ). cuts_up_to (mark s log) s.minimum s.maximum x 0) end0
@@ -71,12 +69,12 @@ module _ (s : Settings) (log : List ℕ) (size i : ℕ) (there : There (length l
         (first-mark s log 0 last (omega arith) inside refl))
         ∙ ap (λ (x : ℕ). cuts_up_to (mark_from s (take (last - 0) (drop 0 log)) 0) s.minimum s.maximum x 0) (sym e))
 
-    pub from_zero : {after : Made} {list list' : List ℕ}
-        → Puts (cuts_up_to (mark_from s (take (last - 0) (drop 0 log)) 0) s.minimum s.maximum (0 + length (take (last - 0) (drop 0 log))) 0) (record { count = 0; cut = 0 }) after list list'
+    pub from_zero : {before after : Made} {list list' : List ℕ} → before.count ≡ 0 → before.cut ≡ 0
+        → Puts (cuts_up_to (mark_from s (take (last - 0) (drop 0 log)) 0) s.minimum s.maximum (0 + length (take (last - 0) (drop 0 log))) before.cut) before after list list'
         → Records (segment_of s log size i) 0 (record { count = after.count; marker = 0 }) list list'
-    from_zero {after} {list} {list'} p =
+    from_zero {before} {after} {list} {list'} none start p =
         subst (λ r. Records r 0 (record { count = after.count; marker = 0 }) list list') (sym first_record)
-        (record { counted = p.counted; marked = refl; kept = p.kept })
+        (record { counted = rw (none, start) at p.counted; marked = refl; kept = rw (none, start) at p.kept })
 
   -- any other
   module _ (later : i ≡ 0 → ⊥) where
@@ -89,6 +87,7 @@ module _ (s : Settings) (log : List ℕ) (size i : ℕ) (there : There (length l
     pub stretch_fine : (48 ≤ length (take (last - (i * size - 47)) (drop (i * size - 47) log)))
         × (i * size - 47 + length (take (last - (i * size - 47)) (drop (i * size - 47) log)) ≤ 2 ^ 40)
     stretch_fine =
+        let low = inside in
         let b = starts_before in
         let l = lead in
         let n = there.short in
@@ -104,7 +103,7 @@ module _ (s : Settings) (log : List ℕ) (size i : ℕ) (there : There (length l
     at_ends : slow_record (mark s log) s.minimum s.maximum (segment_end (length log) size i) (marks_in (mark s log) (segment_start size i) (segment_end (length log) size i))
         ≡ slow_record (mark s log) s.minimum s.maximum last (marks_in (mark s log) (i * size) last)
     unfolding segment_start
-    at_ends = ap (λ (x : ℕ). slow_record (mark s log) s.minimum s.maximum x (marks_in (mark s log) (i * size) x)) end_is
+    at_ends = ap (λ (x : ℕ). slow_record (mark s log) s.minimum s.maximum x (marks_in (mark s log) (i * size) x)) (sym ends)
 
     slow_record_lem : segment_of s log size i ≡ slow_in s (take (last - (i * size - 47)) (drop (i * size - 47) log)) (i * size - 47)
     unfolding slow_in

@@ -1,6 +1,5 @@
 -- A segment with its lead-in as a stretch inside the log: its marks, and what the inner functions find in it.
-use Rattle.std.specs.Prelude.{ℕ, ◌+◌, ◌-◌, min, ◌≡◌, Bool, List, length}
-use Rattle.rule.specs.Rule.{hop}
+use Rattle.std.specs.Prelude.{ℕ, ◌+◌, ◌-◌, ◌≡◌, Bool, List, length}
 use Rattle.terms.specs.declared.Settings.{Settings}
 use Rattle.cutting.specs.Marks.{mark}
 use Rattle.std.proofs.lemmas.List.Edits.{sets}
@@ -11,10 +10,6 @@ use Rattle.board_record.specs.Records.{record_after, slow_record, marks_in}
 -- the marks of a stretch that begins at offset base of its log
 unfoldable pub mark_from : (settings : Settings) (stretch : List ℕ) (base p : ℕ) → Bool
 mark_from settings stretch base p = mark settings stretch (p - base)
-
--- the hop from a cut of a stretch, whatever follows; past the stretch, the offset after its end
-unfoldable pub hop_in : (settings : Settings) (stretch : List ℕ) (cut : ℕ) → ℕ
-hop_in settings stretch cut = min (hop (mark settings stretch) settings.minimum settings.maximum cut) (length stretch + 1)
 
 -- what is recorded after a mark of the stretch, and of the whole stretch past its lead-in
 unfoldable pub after_in : (settings : Settings) (stretch : List ℕ) (base at : ℕ) → Record

@@ -1,63 +1,44 @@
 // The one-pass cuts of a stretch, whatever follows it.
-ghost use Rattle.std.specs.Prelude.{◌≡◌, true, ◌+◌, ◌≤◌, ◌^◌, length};
-ghost use Rattle.signature.specs.Signatures.{signature_tables};
-ghost use Rattle.terms.specs.Settings.{in_range};
-ghost use Rattle.rule.specs.Rule.{cuts_up_to};
+// (cutter, stretch, list) stay parameters, as at `lists::Made`: a struct that held the lent list would have to tell through itself what `list.new` tells at once.
+ghost use Rattle.std.specs.Prelude.{◌≡◌, ◌+◌, ◌≤◌, ◌<◌, ◌^◌, length, IfSome, IfNone};
+ghost use Rattle.rule.specs.Rule.{hop, cuts_up_to};
+ghost use Rattle.cutting.specs.Marks.{mark};
 ghost use Rattle.lists.specs.Puts.{Puts};
-ghost use Rattle.board_record.specs.Stretches.{mark_from, hop_in};
+ghost use Rattle.board_record.specs.Stretches.{mark_from};
 
-use board_bays::shapes::end_of;
-use cutting::search::seek;
+use super::stretch::Stretch;
+use cutting::search::{Cutter, Spot};
 use lists::Made;
-use signature::Tables;
-use terms::Settings;
 
-// The cut that follows a cut of a stretch if it stays in it, whatever follows; else an offset past the end.
-fn next_hop(settings: Settings, stretch: &[u8], cut: usize, tables: &Tables) -> usize
-    requires settings_value { in_range settings ≡ true }
-    requires cut_in_bounds { (cut ≤ length stretch.now) × (length stretch.now ≤ 2 ^ 40) }
-    requires tables_value { tables.now ≡ signature_tables }
-    ensures { result ≡ hop_in settings stretch.now cut }
+// The cut that follows a cut of a stretch if it stays in it, whatever follows.
+fn next_hop(cutter: &Cutter, bytes: &[u8], cut: usize) -> Option<usize>
+    requires { (cut ≤ length bytes.now) × (length bytes.now ≤ 2 ^ 40) }
+    ensures stays { IfSome result (λ next. (next ≤ length bytes.now) × (hop (mark cutter.now.marks.settings bytes.now) cutter.now.marks.settings.minimum cutter.now.marks.settings.maximum cut ≡ next)) }
+    ensures leaves { IfNone result (length bytes.now < hop (mark cutter.now.marks.settings bytes.now) cutter.now.marks.settings.minimum cutter.now.marks.settings.maximum cut) }
 {
-    let maximum = settings.maximum;
-    let first = cut + settings.minimum as usize;
-    if first > stretch.len() {
-        return stretch.len() + 1;
+    let settings = cutter.marks.settings;
+    let at = cut + settings.minimum as usize;
+    if at > bytes.len() {
+        return None;
     }
-    let last = end_of(stretch.len() as u64, cut as u64, maximum) as usize;
-    let here = signature::of_window(stretch, first - 48, tables);
-    let spot = seek(settings, stretch, first, last, here, tables);
-    if spot.found {
-        return spot.at;
+    let last = (cut + settings.maximum as usize).min(bytes.len());
+    let signature = cutter.marks.tables.of_window(&bytes[at - 48..at]);
+    if let Ok(spot) = cutter.marks.seek(bytes, Spot { at, signature }, last) {
+        return Some(spot.at);
     }
-    if (last - cut) as u64 == maximum {
-        return last;
+    if last - cut == settings.maximum as usize {
+        return Some(last);
     }
-    stretch.len() + 1
+    None
 }
 
 // The one-pass cuts of a stretch that follow a cut: what the record lists of them.
-pub fn record_cuts(
-    settings: Settings,
-    stretch: &[u8],
-    base: u64,
-    made: Made,
-    list: &mut [u64],
-    tables: &Tables,
-) -> Made
-    requires settings_value { in_range settings ≡ true }
-    requires count_le_cut { (made.count ≤ made.cut) × (base ≤ made.cut) × (made.cut ≤ base + length stretch.now) × (base + length stretch.now ≤ 2 ^ 40) }
-    requires tables_value { tables.now ≡ signature_tables }
-    ensures { Puts (cuts_up_to (mark_from settings stretch.now base) settings.minimum settings.maximum (base + length stretch.now) made.cut) made result list.old list.new }
+pub fn record_cuts(cutter: &Cutter, stretch: &Stretch, mut made: Made, list: &mut [u64]) -> Made
+    requires { (stretch.now.base ≤ made.cut) × (made.cut ≤ stretch.now.base + length stretch.now.bytes.now) }
+    ensures { Puts (cuts_up_to (mark_from cutter.now.marks.settings stretch.now.bytes.now stretch.now.base) cutter.now.marks.settings.minimum cutter.now.marks.settings.maximum (stretch.now.base + length stretch.now.bytes.now) made.cut) made result list.old list.new }
 {
-    let mut count = made.count;
-    let mut cut = made.cut;
-    let mut next = next_hop(settings, stretch, (cut - base) as usize, tables);
-    while next <= stretch.len() {
-        cut = base + next as u64;
-        lists::put(list, count, cut);
-        count += 1;
-        next = next_hop(settings, stretch, next, tables);
+    while let Some(next) = next_hop(cutter, stretch.bytes, (made.cut - stretch.base) as usize) {
+        made.put(list, stretch.base + next as u64);
     }
-    Made { count, cut }
+    made
 }

@@ -6,9 +6,15 @@ use mathlib.Core.List.{List, [], ◌∷◌, ◌++◌, append-nil}
 use native.Mathlib.Omega.{arith}
 use lib.Dec.{eqb}
 use borrow.Author.Tests.{le-leb, lt-leb}
+use Rattle.terms.specs.declared.Checked.{Checked}
+use Rattle.terms.proofs.Ranges.{ranges}
 use Rattle.rule.specs.Rule.{last_or}
 use Rattle.rule.proofs.Hops.{UpTo, past, leap, up_to, listed, stands}
 use Rattle.board_walk.specs.Walk.{forced_up_to, read_offset, read_as_marks}
+
+-- settings that are in range force cuts further on
+pub forces : (rule : Checked) → 1 ≤ rule.settings.maximum
+forces rule = let r = ranges rule.settings rule.ranged in omega (arith, r.ordered, r.positive)
 
 module _ (hi : ℕ) (positive : 0 < hi) where
   pub forced_rises : (c : ℕ) → c < c + hi

@@ -1,4 +1,4 @@
-// Prints the cuts of standard input. Here it is held to an input over several blocks.
+// Prints the cuts of standard input. Here it is held to an input over several blocks; a program is held to one input, so it has three twins.
 #![tactic(auto)]
 
 fn main(rt: HostRuntime) {

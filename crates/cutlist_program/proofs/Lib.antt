@@ -1,3 +1,2 @@
--- how long the program's lines are, and how a text grows by them
+-- a number's spelling, and the line of one cut more
 pub mod Texts
-pub mod Underway

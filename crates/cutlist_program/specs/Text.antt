@@ -1,7 +1,6 @@
 -- The lines that the program prints, as bytes.
-use Rattle.std.specs.Prelude.{◌≡◌, ℕ, zero, suc, ◌+◌, ◌-◌, ◌^◌, cond, List, [], ◌∷◌, ◌++◌, length, nat_lt}
+use Rattle.std.specs.Prelude.{ℕ, zero, suc, ◌-◌, ◌^◌, cond, List, [], ◌∷◌, ◌++◌, nat_lt}
 use Rattle.io.specs.Digits.{last_digits}
-use Rattle.laws.specs.Over.{over_from}
 
 -- the fewest decimal digits that hold n, where it takes at least k and at most k + spare
 unfoldable pub places : ℕ → ℕ → ℕ → ℕ
@@ -24,8 +23,3 @@ lines last (cut ∷ rest) = pair cut (32 ∷ []) (cut - last) ++ lines cut rest
 -- the last line, `cuts C bytes B`
 unfoldable pub counts : ℕ → ℕ → List ℕ
 counts cuts bytes = (99 ∷ 117 ∷ 116 ∷ 115 ∷ 32 ∷ []) ++ pair cuts (32 ∷ 98 ∷ 121 ∷ 116 ∷ 101 ∷ 115 ∷ 32 ∷ []) bytes
-
--- a text after a run of bytes was put at a place; r is the place after the run
-pub record Put (at : ℕ) (run before after : List ℕ) (r : ℕ) : Type 0 where
-  pub text : after ≡ over_from at run before
-  pub place : r ≡ at + length run

@@ -1,4 +1,4 @@
-// The program cutlist, held to what it prints for 70,000 zero bytes.
+// The program cutlist, held to what it prints for 70,000 zero bytes: a program is held to one input, so this is a twin of the crate cutlist.
 #![tactic(auto)]
 
 fn main(rt: HostRuntime) {

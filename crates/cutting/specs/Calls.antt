@@ -1,8 +1,7 @@
 -- What cutting a whole log answers, and what it leaves in the lent list: document 01, "Numbers answered".
-use Rattle.std.specs.Prelude.{ℕ, not, List, [], ◌∷◌, ltb, length}
+use Rattle.std.specs.Prelude.{ℕ, not, List, [], ◌∷◌, ltb, length, Ok, Err}
 use Rattle.terms.specs.declared.Settings.{Settings}
-use Rattle.terms.specs.declared.Answer.{Answer}
-use Rattle.terms.specs.declared.Answer.TheVariants.{Wrote, Refused}
+use Rattle.terms.specs.Answers.{Answer}
 use Rattle.terms.specs.declared.Refusal.TheVariants.{SettingsOutOfRange, LogTooLong, RoomTooShort, ListFull}
 use Rattle.terms.specs.Settings.{in_range}
 use Rattle.terms.specs.Answers.{longest, room_for}
@@ -21,7 +20,7 @@ cut_log_rows settings log room =
 
 -- the entries written
 unfoldable pub cut_log_answer : (settings : Settings) (log : List ℕ) (room : ℕ) → Answer
-cut_log_answer settings log room = ruled (verdict (cut_log_rows settings log room)) Refused (Wrote (length (cut_list settings log)))
+cut_log_answer settings log room = ruled (verdict (cut_log_rows settings log room)) Err (Ok (length (cut_list settings log)))
 
 -- the list at exit
 unfoldable pub cut_log_leaves : (settings : Settings) (log list : List ℕ) → List ℕ

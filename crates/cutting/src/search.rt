@@ -1,92 +1,108 @@
 // The next cut after a cut: a window rolled along the log until a mark, or to where the cut is forced.
-ghost use Rattle.std.specs.Prelude.{◌≡◌, true, suc, ◌-◌, ◌≤◌, ◌<◌, min, length};
+ghost use Rattle.std.specs.Prelude.{◌≡◌, true, false, suc, ◌-◌, ◌≤◌, ◌<◌, length, IfOk, IfErr};
 ghost use Rattle.rule.specs.Rule.{first_mark};
-ghost use Rattle.signature.specs.Signatures.{signature_of, window, signature_tables};
+ghost use Rattle.signature.specs.Signatures.{signature_of, window};
 ghost use Rattle.terms.specs.Settings.{in_range};
-ghost use Rattle.cutting.specs.Marks.{mark, next_cut};
-ghost use Rattle.cutting.specs.Search.{Seek};
+ghost use Rattle.cutting.specs.Marks.{matches, mark, next_cut};
 
 use signature::Tables;
-use terms::Settings;
+use terms::{Checked, Settings};
 
-// Where a search stops: at a mark that it found, or at its end; and the signature there.
+// An offset, and the signature of the 48 bytes before it. Whose bytes these are stands in the contracts: a spot that held them would lend them
+// anew at each step of the search.
 #[derive(Clone, Copy)]
-pub struct Sought {
+pub struct Spot {
     pub at: usize,
     pub signature: u32,
-    pub found: bool,
 }
 
-// The first mark from one offset, whose signature is at hand, to another, or the latter where there is none.
-pub fn seek(
-    settings: Settings,
-    log: &[u8],
-    first: usize,
-    last: usize,
-    signature: u32,
-    tables: &Tables,
-) -> Sought
-    requires bits_bound { settings.bits ≤ 31 }
-    requires le_first { (48 ≤ first) × (first ≤ last) × (last ≤ length log.now) × (signature ≡ signature_of (window log.now (first - 48))) }
-    requires tables_value { tables.now ≡ signature_tables }
-    ensures { Seek settings log.now first last result }
-{
-    let mask: u32 = (1 << settings.bits) - 1;
-    let target = settings.target;
-    let mut here = signature;
-    let mut at = first;
-    let stop = loop {
-        if here & mask == target {
-            break at;
+// What tells the marks of a log: the low bits that a signature is held to, and the tables by which it rolls. It asks for at most 31 pattern
+// bits and not for settings in range, since it uses no more.
+#[derive(Drop)]
+pub struct Marks {
+    pub settings: Settings,
+    pub tables: Tables,
+    pub ghost few_bits: { settings.bits ≤ 31 },
+}
+
+impl Marks {
+    ghost use Rattle.cutting.specs.Search.{Seek};
+
+    // Whether the low bits of a signature are the target.
+    pub fn matches(&self, signature: u32) -> bool
+        ensures { result ≡ matches self.now.settings signature }
+    {
+        let mask: u32 = (1 << self.settings.bits) - 1;
+        signature & mask == self.settings.target
+    }
+
+    // The first mark from one offset to another, both included; or, as an error, the latter where there is none.
+    pub fn seek(&self, log: &[u8], first: Spot, last: usize) -> Result<Spot, Spot>
+        requires bounds { (48 ≤ first.at) × (first.at ≤ last) × (last ≤ length log.now) }
+        requires signature { first.signature ≡ signature_of (window log.now (first.at - 48)) }
+        ensures found { IfOk result (λ spot. Seek self.now.settings log.now first.at last spot true) }
+        ensures ended { IfErr result (λ spot. Seek self.now.settings log.now first.at last spot false) }
+    {
+        let mut here = first;
+        // The loop counts its offset itself: it tests one offset more than the bytes that it rolls over, which a `for` over the bytes says twice.
+        loop {
+            if self.matches(here.signature) {
+                break Ok(here);
+            }
+            if here.at == last {
+                break Err(here);
+            }
+            here.signature = self
+                .tables
+                .roll(here.signature, log[here.at - 48], log[here.at]);
+            here.at += 1;
         }
-        if at == last {
-            break last;
+    }
+
+    // The first mark from one offset to another, or the latter where there is none.
+    pub fn first_mark(&self, log: &[u8], first: usize, last: usize) -> usize
+        requires { (48 ≤ first) × (last ≤ length log.now) }
+        ensures { result ≡ first_mark (mark self.now.settings log.now) (suc last - first) first last }
+    {
+        if last < first {
+            return last;
         }
-        here = signature::roll(here, log[at - 48], log[at], tables);
-        at += 1;
-    };
-    Sought {
-        at: stop,
-        signature: here,
-        found: here & mask == target,
+        let here = Spot {
+            at: first,
+            signature: self.tables.of_window(&log[first - 48..first]),
+        };
+        match self.seek(log, here, last) {
+            Ok(spot) | Err(spot) => spot.at,
+        }
     }
 }
 
-// The first mark from one offset to another, or the latter where there is none.
-pub fn first_mark(
-    settings: Settings,
-    log: &[u8],
-    first: usize,
-    last: usize,
-    tables: &Tables,
-) -> usize
-    requires bits_bound { settings.bits ≤ 31 }
-    requires le_first { (48 ≤ first) × (last ≤ length log.now) }
-    requires tables_value { tables.now ≡ signature_tables }
-    ensures { result ≡ first_mark (mark settings log.now) (suc last - first) first last }
-{
-    if last < first {
-        return last;
+// What cuts a log: its marks, for settings in range.
+#[derive(Drop)]
+pub struct Cutter {
+    pub marks: Marks,
+    pub ghost ranged: { in_range marks.settings ≡ true },
+}
+
+impl Cutter {
+    pub fn new(rule: Checked) -> Self
+        ensures { result.marks.settings ≡ rule.settings }
+    {
+        let marks = Marks {
+            settings: rule.settings,
+            tables: Tables::new(),
+        };
+        Cutter { marks }
     }
-    let here = signature::of_window(log, first - 48, tables);
-    let spot = seek(settings, log, first, last, here, tables);
-    spot.at
-}
 
-pub fn smaller(a: usize, b: usize) -> usize
-    ensures { result ≡ min a b }
-{
-    if a < b { a } else { b }
-}
-
-// The cut that follows a cut below the log's end. The bytes below cut + minimum - 48 are not rolled over.
-pub fn next_cut(settings: Settings, log: &[u8], cut: usize, tables: &Tables) -> usize
-    requires settings_value { in_range settings ≡ true }
-    requires cut_in_bounds { cut < length log.now }
-    requires tables_value { tables.now ≡ signature_tables }
-    ensures { result ≡ next_cut settings log.now cut }
-{
-    let first = cut + settings.minimum as usize;
-    let last = smaller(cut + settings.maximum as usize, log.len());
-    first_mark(settings, log, first, last, tables)
+    // The cut that follows a cut below the log's end. The bytes below cut + minimum - 48 are not rolled over.
+    pub fn next_cut(&self, log: &[u8], cut: usize) -> usize
+        requires { cut < length log.now }
+        ensures { result ≡ next_cut self.now.marks.settings log.now cut }
+    {
+        let settings = self.marks.settings;
+        let first = cut + settings.minimum as usize;
+        let last = (cut + settings.maximum as usize).min(log.len());
+        self.marks.first_mark(log, first, last)
+    }
 }

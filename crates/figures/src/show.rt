@@ -1,64 +1,57 @@
 // Lines of text: an answer, and the entries of a lent list as the call left them.
-use std::io;
-use terms::Answer;
+use std::{fmt, io};
+use terms::{Answer, Refusal};
 
-pub fn text(rt: &impl Print, what: &[u8]) -> io::Result<()> {
-    rt.write_all(what)
-}
+// What a call came to: what it made, or the number of its refusal.
+#[derive(Clone, Copy)]
+pub struct Told<T>(pub Result<T, Refusal>);
 
-pub fn number(rt: &impl Print, n: u64) -> io::Result<()> {
-    rt.print(n)
-}
-
-pub fn answer(rt: &impl Print, what: &[u8], answer: Answer) -> io::Result<()> {
-    text(rt, what)?;
-    match answer {
-        Answer::Wrote(count) => {
-            text(rt, b": wrote ")?;
-            number(rt, count)
-        }
-        Answer::Refused(why) => {
-            text(rt, b": refused ")?;
-            number(rt, why.number() as u64)
+impl<T: fmt::Display> fmt::Display for Told<T> {
+    fn fmt<W: fmt::Write>(&self, f: &mut fmt::Formatter<W>) -> fmt::Result {
+        match &self.0 {
+            Ok(made) => write!(f, "{made}"),
+            Err(why) => write!(f, "refused {}", u32::from(*why)),
         }
     }
 }
 
-pub fn after_space(rt: &impl Print, n: u64) -> io::Result<()> {
-    text(rt, b" ")?;
-    number(rt, n)
-}
+// The entries or bytes that a call wrote.
+#[derive(Clone, Copy)]
+pub struct Wrote(pub u64);
 
-// The entries, each after a space.
-fn each(rt: &impl Print, list: &[u64]) -> io::Result<()> {
-    for n in list {
-        after_space(rt, *n)?;
+impl fmt::Display for Wrote {
+    fn fmt<W: fmt::Write>(&self, f: &mut fmt::Formatter<W>) -> fmt::Result {
+        write!(f, "wrote {}", self.0)
     }
-    Ok(())
 }
 
-pub fn entries(rt: &impl Print, list: &[u64]) -> io::Result<()> {
-    each(rt, list)?;
-    text(rt, b"\n")
-}
+// Numbers, each after a space.
+#[derive(Clone, Copy)]
+pub struct Spaced<'a>(pub &'a [u64]);
 
-fn hex_digits(rt: &impl Print, byte: u8) -> io::Result<()> {
-    print!(rt; "{byte:02x}")
-}
-
-// The first bytes, two digits each.
-fn each_hex(rt: &impl Print, bytes: &[u8], count: usize) -> io::Result<()> {
-    for byte in bytes.iter().take(count) {
-        hex_digits(rt, *byte)?;
+impl fmt::Display for Spaced<'_> {
+    fn fmt<W: fmt::Write>(&self, f: &mut fmt::Formatter<W>) -> fmt::Result {
+        for n in self.0 {
+            write!(f, " {n}")?;
+        }
+        Ok(())
     }
-    Ok(())
 }
 
-// The same with the line's end, or nothing where no byte is to be shown.
-pub fn hex(rt: &impl Print, bytes: &[u8], count: usize) -> io::Result<()> {
-    if count == 0 {
-        return Ok(());
+// Bytes, two hexadecimal digits each.
+#[derive(Clone, Copy)]
+pub struct Hex<'a>(pub &'a [u8]);
+
+impl fmt::Display for Hex<'_> {
+    fn fmt<W: fmt::Write>(&self, f: &mut fmt::Formatter<W>) -> fmt::Result {
+        for byte in self.0 {
+            write!(f, "{byte:02x}")?;
+        }
+        Ok(())
     }
-    each_hex(rt, bytes, count)?;
-    text(rt, b"\n")
+}
+
+// A line: what was called, its answer, and the list that it left.
+pub fn answer(rt: &impl Print, what: &str, answer: Answer, list: &[u64]) -> io::Result<()> {
+    println!(rt; "{what}: {}{}", Told(answer.map(Wrote)), Spaced(list))
 }

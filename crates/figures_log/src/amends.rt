@@ -1,214 +1,132 @@
 // Amending: the figures of document 01 over log C at 48/200, the corners of front, meeting and back, and the refusals.
-ghost use Rattle.std.specs.Prelude.{◌≡◌, ◌<◌, length};
+// `ROOM < 2 ^ 60`: an array is lent as a slice only if its bytes, eight for each number, are fewer than 2^63.
+ghost use Rattle.std.specs.Prelude.{◌^◌, ◌<◌};
 
 use amending::edits::Edit;
-use amending::{Amendment, amend};
-use figures::logs::all_bits;
-use figures::show;
-use std::io;
+use amending::{Counts, amend};
+use figures::logs::{ones, settings};
+use figures::show::{Spaced, Told};
+use std::{fmt, io};
 
-fn counts(rt: &impl Print, what: &[u8], amendment: Amendment) -> io::Result<()> {
-    show::text(rt, what)?;
-    match amendment {
-        Amendment::Amended { front, recut, back } => {
-            show::text(rt, b": counts")?;
-            show::after_space(rt, front)?;
-            show::after_space(rt, recut)?;
-            show::after_space(rt, back)?;
-            show::text(rt, b" list")?;
-        }
-        Amendment::Refused(why) => {
-            show::text(rt, b": refused ")?;
-            show::number(rt, why.number() as u64)?;
-        }
+// The entries of the three parts.
+#[derive(Clone, Copy)]
+struct Shown(Counts);
+
+impl fmt::Display for Shown {
+    fn fmt<W: fmt::Write>(&self, f: &mut fmt::Formatter<W>) -> fmt::Result {
+        let parts = self.0;
+        write!(
+            f,
+            "counts {} {} {} list",
+            parts.front, parts.recut, parts.back
+        )
     }
-    Ok(())
 }
 
-// The log is the first of the bytes lent.
-fn edit(
+fn edit(at: u64, removed: u64, added: u64) -> Edit {
+    Edit { at, removed, added }
+}
+
+// Amends the old list of log C, for an edit that led to a new log, and shows the list lent, which starts as sevens.
+fn show<const ROOM: usize>(
     rt: &impl Print,
-    what: &[u8],
+    what: &str,
     old: &[u64],
-    s: u64,
-    d: u64,
-    e: u64,
-    bytes: &[u8],
-    length: usize,
-    list: &mut [u64],
-) -> io::Result<()> {
-    if length <= bytes.len() {
-        counts(
-            rt,
-            what,
-            amend(
-                all_bits(48, 200),
-                old,
-                Edit {
-                    at: s,
-                    removed: d,
-                    added: e,
-                },
-                &bytes[..length],
-                list,
-            ),
-        )?;
-        show::entries(rt, list)?;
-    }
-    Ok(())
-}
-
-// Amends the list of log C, lent with room for 11 entries that start as sevens.
-fn edit_c(
-    rt: &impl Print,
-    what: &[u8],
-    s: u64,
-    d: u64,
-    e: u64,
-    bytes: &[u8],
-    length: usize,
-) -> io::Result<()> {
-    let old = [100u64, 200, 300, 400];
-    let mut list = [7u64; 11];
-    edit(rt, what, &old, s, d, e, bytes, length, &mut list)
-}
-
-// Ones at these places of an otherwise zero log: the marks follow them.
-fn ones(a: usize, b: usize, c: usize, d: usize) -> [u8; 500]
-    requires { (a < 500) × (b < 500) × (c < 500) × (d < 500) }
-    ensures { 500 ≡ length result }
+    edit: Edit,
+    log: &[u8],
+) -> io::Result<()>
+    requires { ROOM < 2 ^ 60 }
 {
-    let mut log = [0u8; 500];
-    log[a] = 1;
-    log[b] = 1;
-    log[c] = 1;
-    log[d] = 1;
-    log
+    let mut list = [7u64; ROOM];
+    let amendment = amend(settings(31, 1, 48, 200), old, edit, log, &mut list);
+    println!(rt; "{what}: {}{}", Told(amendment.map(Shown)), Spaced(&list))
 }
 
 fn figures(rt: &impl Print) -> io::Result<()> {
-    let put_in = ones(99, 150, 200, 300);
-    edit_c(rt, b"one byte 1 put in at 150", 150, 0, 1, &put_in, 401)?;
-    let c = ones(99, 199, 299, 299);
-    edit_c(rt, b"ten zeros appended", 400, 0, 10, &c, 410)?;
-    let twice = ones(99, 199, 299, 399);
-    edit_c(
-        rt,
-        b"a copy of the first piece put in at 100",
-        100,
-        0,
-        100,
-        &twice,
-        500,
-    )?;
-    edit_c(rt, b"nothing replaced at 150", 150, 0, 0, &c, 400)?;
-    edit_c(rt, b"nothing replaced at the end", 400, 0, 0, &c, 400)?;
-    edit_c(rt, b"the last piece taken away", 300, 100, 0, &c, 300)?;
-    edit_c(rt, b"everything taken away", 0, 400, 0, &c, 0)
+    let put_in: [u8; 401] = ones(&[99, 150, 200, 300]);
+    let twice: [u8; 500] = ones(&[99, 199, 299, 399]);
+    let c: [u8; 410] = ones(&[99, 199, 299]);
+    let cases = [
+        ("one byte 1 put in at 150", edit(150, 0, 1), &put_in[..]),
+        ("ten zeros appended", edit(400, 0, 10), &c[..]),
+        (
+            "a copy of the first piece put in at 100",
+            edit(100, 0, 100),
+            &twice[..],
+        ),
+        ("nothing replaced at 150", edit(150, 0, 0), &c[..400]),
+        ("nothing replaced at the end", edit(400, 0, 0), &c[..400]),
+        ("the last piece taken away", edit(300, 100, 0), &c[..300]),
+        ("everything taken away", edit(0, 400, 0), &c[..0]),
+    ];
+    for (what, edit, log) in cases {
+        show::<11>(rt, what, &[100, 200, 300, 400], edit, log)?;
+    }
+    Ok(())
 }
 
 fn edits_refused(rt: &impl Print) -> io::Result<()> {
-    let c = ones(99, 199, 299, 299);
-    edit_c(rt, b"s past the old length", 401, 0, 0, &c, 400)?;
-    edit_c(rt, b"d past what follows s", 350, 51, 0, &c, 349)?;
-    edit_c(rt, b"another length", 350, 0, 1, &c, 400)?;
-    edit_c(
-        rt,
-        b"a length that would wrap",
-        0,
-        0,
-        18_446_744_073_709_551_216,
-        &c,
-        0,
-    )
+    let c: [u8; 400] = ones(&[99, 199, 299]);
+    let wrapping = edit(0, 0, 18_446_744_073_709_551_216);
+    let cases = [
+        ("s past the old length", edit(401, 0, 0), &c[..]),
+        ("d past what follows s", edit(350, 51, 0), &c[..349]),
+        ("another length", edit(350, 0, 1), &c[..]),
+        ("a length that would wrap", wrapping, &c[..0]),
+    ];
+    for (what, edit, log) in cases {
+        show::<11>(rt, what, &[100, 200, 300, 400], edit, log)?;
+    }
+    Ok(())
 }
 
-fn rooms_and_lists(rt: &impl Print) -> io::Result<()> {
-    let c = ones(99, 199, 299, 299);
-    let old = [100u64, 200, 300, 400];
-    let mut room = [7u64; 10];
-    edit(
-        rt,
-        b"room for one less",
-        &old,
-        400,
-        0,
-        80,
-        &c,
-        480,
-        &mut room,
-    )?;
-    edit(
-        rt,
-        b"room for one more",
-        &old,
-        400,
-        0,
-        79,
-        &c,
-        479,
-        &mut room,
-    )?;
-    let mut list = [7u64; 3];
-    let short = [10u64, 60];
-    edit(
-        rt,
-        b"a short step before the last",
-        &short,
-        0,
-        0,
-        0,
-        &c,
-        60,
-        &mut list,
-    )?;
-    edit(
-        rt,
-        b"from an empty log",
-        &short[..0],
-        0,
-        0,
-        101,
-        &c,
-        101,
-        &mut list,
-    )
+fn rooms(rt: &impl Print) -> io::Result<()> {
+    let c = [100u64, 200, 300, 400];
+    let log: [u8; 480] = ones(&[99, 199, 299]);
+    let cases = [
+        ("room for one less", 80, &log[..]),
+        ("room for one more", 79, &log[..479]),
+    ];
+    for (what, added, part) in cases {
+        show::<10>(rt, what, &c, edit(400, 0, added), part)?;
+    }
+    Ok(())
 }
 
 // An old end that is a mark is no front cut either; a list that is not the log's is taken as it stands.
 fn other_lists(rt: &impl Print) -> io::Result<()> {
-    let c = ones(99, 199, 299, 299);
-    let ended = [100u64];
-    let mut list = [7u64; 3];
-    edit(
-        rt,
-        b"ten zeros appended to a mark",
-        &ended,
-        100,
-        0,
-        10,
-        &c,
-        110,
-        &mut list,
-    )?;
+    let log: [u8; 400] = ones(&[99, 199, 299]);
+    let cases = [
+        (
+            "a short step before the last",
+            &[10, 60][..],
+            edit(0, 0, 0),
+            &log[..60],
+        ),
+        ("from an empty log", &[][..], edit(0, 0, 101), &log[..101]),
+        (
+            "ten zeros appended to a mark",
+            &[100][..],
+            edit(100, 0, 10),
+            &log[..110],
+        ),
+    ];
+    for (what, old, edit, log) in cases {
+        show::<3>(rt, what, old, edit, log)?;
+    }
     let untrue = [60u64, 130, 250, 400];
-    let mut room = [7u64; 9];
-    edit(
+    show::<9>(
         rt,
-        b"from a list that is not the log's",
+        "from a list that is not the log's",
         &untrue,
-        70,
-        0,
-        0,
-        &c,
-        400,
-        &mut room,
+        edit(70, 0, 0),
+        &log,
     )
 }
 
 pub fn run(rt: &impl Print) -> io::Result<()> {
     figures(rt)?;
     edits_refused(rt)?;
-    rooms_and_lists(rt)?;
+    rooms(rt)?;
     other_lists(rt)
 }

@@ -1,10 +1,10 @@
 -- Case splits as terms: of two numbers, and of a test with its outcome in hand.
-use mathlib.Core.Path.{◌≡◌, refl, sym, ◌∙◌}
-use mathlib.Core.Bool.{Bool, true, false, not, ◌&&◌, ◌||◌}
+use mathlib.Core.Path.{◌≡◌, refl, sym}
+use mathlib.Core.Bool.{Bool, true, false, ◌&&◌, ◌||◌}
 use Prim.Native.Nat.{ℕ, ◌≤◌, ◌<◌}
 use lib.Dec.{ltb}
 use native.Mathlib.Omega.{arith}
-use borrow.Author.Tests.{ltb-true, ltb-false, not-true, not-false}
+use borrow.Author.Tests.{ltb-true, ltb-false}
 
 pub by_test {ℓ} : {C : Type ℓ} (t : Bool) → (t ≡ true → C) → (t ≡ false → C) → C
 by_test true f g = f refl
@@ -24,13 +24,6 @@ clash e = impossible (cc)
 -- both halves of a test that passed
 pub both_true : {a b : Bool} → a && b ≡ true → (a ≡ true) × (b ≡ true)
 both_true {a} {b} e = by_test a (λ h. (h, rw h at e)) (λ h. absurd (clash (sym (rw h at e))))
-
--- a test t asked by a call that answered r, under the code's `if !r`
-pub test_passed : {r t : Bool} → r ≡ t → not r ≡ false → t ≡ true
-test_passed {r} told e = sym told ∙ not-false r e
-
-pub test_failed : {r t : Bool} → r ≡ t → not r ≡ true → t ≡ false
-test_failed {r} told e = sym told ∙ not-true r e
 
 -- a test whose second half is known
 pub and-false : (t : Bool) → t && false ≡ false

@@ -1,4 +1,5 @@
 -- A list of cuts written into a lent list as far as that goes: by the room there is, and by the steps that put it there.
+use Rattle.std.specs.Prelude.{Ok, Err}
 use Prim.Native.Nat.{ℕ, ◌≤◌, ◌<◌}
 use mathlib.Core.Path.{◌≡◌, ap, ◌∙◌}
 use mathlib.Core.List.{List, []}
@@ -10,11 +11,10 @@ use borrow.Author.Tests.{le-ltb, lt-ltb}
 use Rattle.laws.specs.Over.{over}
 use Rattle.laws.proofs.Writing.{over_none, take_over}
 use Rattle.laws.proofs.Sets.{sets_written}
-use Rattle.terms.specs.declared.Answer.TheVariants.{Wrote, Refused}
 use Rattle.terms.specs.declared.Refusal.TheVariants.{ListFull}
 use Rattle.terms.specs.Rows.{verdict}
 use Rattle.lists.specs.declared.Made.{Made}
-use Rattle.lists.specs.Puts.{Puts}
+use Rattle.lists.specs.Puts.{Puts, none_after}
 use Rattle.lists.specs.Written.{written_answer, written_list}
 
 -- there is room for all
@@ -31,16 +31,16 @@ written_first l list h = ap (take (length l)) (written_whole l list h) ∙ take_
 
 -- the guard as the code asks it, once all are counted
 module _ (cuts : List ℕ) (room : ℕ) {count : ℕ} (counted : count ≡ length cuts) where
-  pub list_full : room < count → Refused ListFull ≡ written_answer cuts room
+  pub list_full : room < count → Err ListFull ≡ written_answer cuts room
   unfolding written_answer verdict
   list_full h = rw (lt-ltb _ _ (rw counted at h))
 
-  pub all_written : count ≤ room → Wrote count ≡ written_answer cuts room
+  pub all_written : count ≤ room → Ok count ≡ written_answer cuts room
   unfolding written_answer verdict
-  all_written h = rw (le-ltb _ _ (rw counted at h)) (ap Wrote counted)
+  all_written h = rw (le-ltb _ _ (rw counted at h)) (ap Ok counted)
 
 -- what steps from the first place on leave: the cuts counted, and the list that holds them
-module _ {cuts list₀ list : List ℕ} {after : Made} (made : Puts cuts (record { count = 0; cut = 0 }) after list₀ list) where
+module _ {cuts list₀ list : List ℕ} {after : Made} (made : Puts cuts (none_after 0) after list₀ list) where
   pub puts_counted : after.count ≡ length cuts
   puts_counted = made.counted ∙ zero-add (length cuts)
 

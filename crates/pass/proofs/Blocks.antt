@@ -1,4 +1,5 @@
 -- A block that no row refuses but the guard, and one that none refuses.
+use Rattle.std.specs.Prelude.{Ok}
 use Prim.Native.Nat.{ℕ, ◌+◌, ◌≤◌, ◌<◌}
 use mathlib.Core.Path.{◌≡◌, sym, ap, ◌∙◌}
 use mathlib.Core.List.{List, [], ◌∷◌}
@@ -6,7 +7,6 @@ use native.Mathlib.Omega.{arith}
 use lib.ListN.{length, take}
 use lib.Seq.{take_all}
 use borrow.Author.Tests.{le-ltb, ltb-false}
-use Rattle.terms.specs.declared.Verdict.TheVariants.{Fine}
 use Rattle.terms.specs.Answers.{answer_count, longest, room_for}
 use Rattle.terms.specs.Rows.{verdict}
 use Rattle.terms.proofs.Verdicts.{Reaches, top, past, skips, reached, clear, both_clear}
@@ -32,7 +32,7 @@ block_empty c block list none =
     unwritten : list ≡ written_list (cuts_in c []) list
     unwritten = unfold cuts_in in sym (written_none list)
 
-module _ (c : Carry) (block : List ℕ) (room : ℕ) (admitted : verdict (carry_rows c) ≡ Fine) (short : c.taken + length block ≤ longest)
+module _ (c : Carry) (block : List ℕ) (room : ℕ) (admitted : verdict (carry_rows c) ≡ Ok tt) (short : c.taken + length block ≤ longest)
     (lent : room_for c.settings.minimum (length block) ≤ room) where
   -- only the guard is left
   pub guarded : Reaches (block_rows c block room) (guard (cuts_in c block) room ∷ [])
@@ -40,14 +40,14 @@ module _ (c : Carry) (block : List ℕ) (room : ℕ) (admitted : verdict (carry_
   guarded = skips (carry_rows c) admitted (past (le-ltb _ _ short) (past (le-ltb _ _ lent) top))
 
   -- and the room asked for is enough
-  pub block_fine : 0 < c.settings.minimum → verdict (block_rows c block room) ≡ Fine
+  pub block_fine : 0 < c.settings.minimum → verdict (block_rows c block room) ≡ Ok tt
   block_fine positive = reached guarded ∙ unguarded
     where
-      unguarded : verdict (guard (cuts_in c block) room ∷ []) ≡ Fine
+      unguarded : verdict (guard (cuts_in c block) room ∷ []) ≡ Ok tt
       unguarded = unfold verdict in rw (le-ltb room (length (cuts_in c block)) (omega (arith, lent, enough_room block c positive)))
 
 -- a block that no row refuses: what it answers, and the entries that it says it wrote
-module _ (c : Carry) (block list : List ℕ) (fine : verdict (block_rows c block (length list)) ≡ Fine) where
+module _ (c : Carry) (block list : List ℕ) (fine : verdict (block_rows c block (length list)) ≡ Ok tt) where
   pub block_answers : block_outcome c block (length list) ≡ wrote (block_taken c block) (length (cuts_in c block))
   unfolding block_outcome
   block_answers = rw fine

@@ -1,4 +1,5 @@
 -- The cut that closing adds, and closing row by row.
+use Rattle.std.specs.Prelude.{Ok, Err}
 use Prim.Native.Nat.{ℕ, ◌≤◌, ◌<◌}
 use mathlib.Core.Path.{◌≡◌, sym, ap, ◌∙◌}
 use mathlib.Core.List.{List, [], ◌∷◌}
@@ -10,7 +11,6 @@ use Rattle.laws.proofs.Cases.{by_lt}
 use Rattle.laws.proofs.Writing.{over_none, over_more}
 use Rattle.terms.specs.declared.Refusal.{Refusal}
 use Rattle.terms.specs.declared.Refusal.TheVariants.{RoomTooShort}
-use Rattle.terms.specs.declared.Verdict.TheVariants.{Fine, Wrong}
 use Rattle.terms.specs.Answers.{answer_count}
 use Rattle.terms.specs.Rows.{verdict}
 use Rattle.terms.proofs.Verdicts.{top, past, joined, skips, judged_wrong, judged_fine, clear, both_clear}
@@ -32,25 +32,25 @@ closing_few : (c : Carry) → length (closing_cut c) ≤ 1
 closing_few c = by_lt 0 c.since (λ h. rw (closing_open c h) (omega arith)) (λ h. rw (closing_shut c h) (omega arith))
 
 -- where a row refuses it
-pub close_wrong : (c : Carry) (list : List ℕ) {why : Refusal} → verdict (close_rows c (length list)) ≡ Wrong why
+pub close_wrong : (c : Carry) (list : List ℕ) {why : Refusal} → verdict (close_rows c (length list)) ≡ Err why
     → (refused c why ≡ close_outcome c (length list)) × (list ≡ close_leaves c list)
 unfolding close_outcome close_leaves
 close_wrong c list e = (rw e, rw e)
 
-pub close_judged : (c : Carry) (room : ℕ) {why : Refusal} → verdict (carry_rows c) ≡ Wrong why → verdict (close_rows c room) ≡ Wrong why
+pub close_judged : (c : Carry) (room : ℕ) {why : Refusal} → verdict (carry_rows c) ≡ Err why → verdict (close_rows c room) ≡ Err why
 unfolding close_rows
 close_judged c room e = joined (carry_rows c) _ ∙ rw e
 
-pub close_short : (c : Carry) (room : ℕ) → verdict (carry_rows c) ≡ Fine → room < 1 → verdict (close_rows c room) ≡ Wrong RoomTooShort
+pub close_short : (c : Carry) (room : ℕ) → verdict (carry_rows c) ≡ Ok tt → room < 1 → verdict (close_rows c room) ≡ Err RoomTooShort
 unfolding close_rows
 close_short c room admitted h = sym (judged_wrong (skips (carry_rows c) admitted top) (lt-ltb room 1 h))
 
-pub close_fine : (c : Carry) (room : ℕ) → verdict (carry_rows c) ≡ Fine → 1 ≤ room → verdict (close_rows c room) ≡ Fine
+pub close_fine : (c : Carry) (room : ℕ) → verdict (carry_rows c) ≡ Ok tt → 1 ≤ room → verdict (close_rows c room) ≡ Ok tt
 unfolding close_rows
 close_fine c room admitted h = sym (judged_fine (skips (carry_rows c) admitted (past (le-ltb room 1 h) top)))
 
 -- where none does
-module _ (c : Carry) (list : List ℕ) (fine : verdict (close_rows c (length list)) ≡ Fine) where
+module _ (c : Carry) (list : List ℕ) (fine : verdict (close_rows c (length list)) ≡ Ok tt) where
   pub answered : close_outcome c (length list) ≡ wrote (closed_carry c) (length (closing_cut c))
   unfolding close_outcome
   answered = rw fine

@@ -1,5 +1,6 @@
 -- The single pass: whatever the blocks, fresh, a call a block and close write the cuts of the joined log where none is refused, and none is where the
 -- lists have the rooms asked for.
+use Rattle.std.specs.Prelude.{Ok, Err}
 use Prim.Native.Nat.{ℕ, ◌≤◌, ◌<◌}
 use mathlib.Core.Path.{◌≡◌, refl, sym, ap, ◌∙◌, subst}
 use mathlib.Core.Bool.{true}
@@ -10,9 +11,7 @@ use lib.ListN.{length, length-append}
 use borrow.Author.Tests.{not-false}
 use Rattle.laws.proofs.Cases.{by_lt, impossible}
 use Rattle.terms.specs.declared.Settings.{Settings}
-use Rattle.terms.specs.declared.Answer.TheVariants.{Wrote}
-use Rattle.terms.specs.declared.Verdict.{Verdict}
-use Rattle.terms.specs.declared.Verdict.TheVariants.{Fine, Wrong}
+use Rattle.terms.specs.Rows.{Verdict}
 use Rattle.terms.specs.Settings.{in_range}
 use Rattle.terms.specs.Answers.{longest, room_for}
 use Rattle.terms.specs.Rows.{verdict, ruled}
@@ -34,17 +33,17 @@ use Rattle.pass.proofs.Prefix.{onward, CarryOf, fresh_prefix, block_prefix}
 use Rattle.pass.proofs.Ordered.{in_order_lem}
 
 -- a call that wrote was refused by no row
-pub succeeds : (v : Verdict) (c after : Carry) (n : ℕ) {k : ℕ} → (ruled v (refused c) (wrote after n)).answer ≡ Wrote k → v ≡ Fine
-succeeds Fine c after n e = refl
-succeeds (Wrong why) c after n e = impossible (cc)
+pub succeeds : (v : Verdict) (c after : Carry) (n : ℕ) {k : ℕ} → (ruled v (refused c) (wrote after n)).answer ≡ Ok k → v ≡ Ok tt
+succeeds (Ok tt) c after n e = refl
+succeeds (Err why) c after n e = impossible (cc)
 
-pub fresh_succeeds : (s : Settings) {k : ℕ} → (fresh_outcome s).answer ≡ Wrote k → (in_range s ≡ true) × ((fresh_outcome s).carry ≡ fresh_carry s)
+pub fresh_succeeds : (s : Settings) {k : ℕ} → (fresh_outcome s).answer ≡ Ok k → (in_range s ≡ true) × ((fresh_outcome s).carry ≡ fresh_carry s)
 unfolding fresh_outcome fresh_rows
 fresh_succeeds s e =
     let v = succeeds (verdict (fresh_rows s)) no_carry (fresh_carry s) 0 e in
     (not-false _ (clear _ _ _ v).0, rw v)
 
-block_succeeds : (c : Carry) (k : Lent) {n : ℕ} → (taking c k).answer ≡ Wrote n → verdict (block_rows c k.block (length k.list)) ≡ Fine
+block_succeeds : (c : Carry) (k : Lent) {n : ℕ} → (taking c k).answer ≡ Ok n → verdict (block_rows c k.block (length k.list)) ≡ Ok tt
 unfolding block_outcome
 block_succeeds c k e = succeeds _ c (block_taken c k.block) (length (cuts_in c k.block)) e
 
@@ -80,7 +79,7 @@ module _ (s : Settings) (log : List ℕ) (ok : Ranges s) where
         (subst (λ n. UpTo (onward s log) n 0 written is.last) whole is.cuts))
 
 -- where fresh and the blocks are not refused, the carry is that of the joined log
-pub prefix : (s : Settings) (calls : List Lent) {k : ℕ} → (fresh_outcome s).answer ≡ Wrote k → Unrefused (fresh_outcome s).carry calls
+pub prefix : (s : Settings) (calls : List Lent) {k : ℕ} → (fresh_outcome s).answer ≡ Ok k → Unrefused (fresh_outcome s).carry calls
     → CarryOf s (joined calls) [] (blocks_written (fresh_outcome s).carry calls) (carry_after (fresh_outcome s).carry calls)
 prefix s calls e all =
     let fine = fresh_succeeds s e in
@@ -96,16 +95,16 @@ none_refused s calls last all =
     ap (λ l. blocks_written (fresh_outcome s).carry calls ++ l) (closing_written c last (closes c all.close))
     ∙ all-cuts s (joined calls) (ranges s (fresh_succeeds s all.fresh).0) _ c (prefix s calls all.fresh all.blocks)
   where
-    closes : (c : Carry) {k : ℕ} → (close_outcome c (length last)).answer ≡ Wrote k → verdict (close_rows c (length last)) ≡ Fine
+    closes : (c : Carry) {k : ℕ} → (close_outcome c (length last)).answer ≡ Ok k → verdict (close_rows c (length last)) ≡ Ok tt
     closes c e = unfold close_outcome in succeeds (verdict (close_rows c (length last))) c _ (length (closing_cut c)) e
 
 module _ (s : Settings) (log : List ℕ) (fine : in_range s ≡ true) (fits : length log ≤ longest) where
   -- a carry of a prefix is refused by none of the rows that judge a carry
-  passes : (rest written : List ℕ) (c : Carry) → CarryOf s log rest written c → verdict (carry_rows c) ≡ Fine
+  passes : (rest written : List ℕ) (c : Carry) → CarryOf s log rest written c → verdict (carry_rows c) ≡ Ok tt
   passes rest written c is = admitted c (ap in_range is.same ∙ fine) (in_order_lem s log rest written c (ranges s fine) is fits) is.open_still
 
   block_passes : (block after written : List ℕ) (c : Carry) → CarryOf s log (block ++ after) written c → (list : List ℕ) → room_for s.minimum (length block) ≤ length list
-      → verdict (block_rows c block (length list)) ≡ Fine
+      → verdict (block_rows c block (length list)) ≡ Ok tt
   block_passes block after written c is list roomy =
       let lent : room_for c.settings.minimum (length block) ≤ length list = rw is.same roomy in
       let positive : 0 < c.settings.minimum = rw is.same (ranges s fine).positive in

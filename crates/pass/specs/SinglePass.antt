@@ -1,7 +1,6 @@
 -- A log that arrives in blocks: what fresh, a call a block and close write, one after the other.
-use Rattle.std.specs.Prelude.{ℕ, ◌≤◌, ◌≡◌, List, [], ◌∷◌, ◌++◌, length, take}
+use Rattle.std.specs.Prelude.{ℕ, ◌≤◌, ◌≡◌, List, [], ◌∷◌, ◌++◌, length, take, Ok}
 use Rattle.terms.specs.declared.Settings.{Settings}
-use Rattle.terms.specs.declared.Answer.TheVariants.{Wrote}
 use Rattle.terms.specs.Answers.{answer_count, room_for}
 use Rattle.pass_carry.specs.declared.Carry.{Carry}
 use Rattle.pass_carry.specs.declared.Outcome.{Outcome}
@@ -40,14 +39,14 @@ written_by s ks last = blocks_written (fresh_outcome s).carry ks ++ close_writte
 -- none of the blocks is refused
 pub data Unrefused : Carry → List Lent → Type 0 where
   none : {c : Carry} → Unrefused c []
-  takes : {c : Carry} {k : Lent} {ks : List Lent} {n : ℕ} → (taking c k).answer ≡ Wrote n → Unrefused (taking c k).carry ks → Unrefused c (k ∷ ks)
+  takes : {c : Carry} {k : Lent} {ks : List Lent} {n : ℕ} → (taking c k).answer ≡ Ok n → Unrefused (taking c k).carry ks → Unrefused c (k ∷ ks)
 
 -- no call is refused: fresh, a block each, and closing
 pub record NoneRefused (s : Settings) (calls : List Lent) (last : List ℕ) : Type 0 where
-  pub fresh : (fresh_outcome s).answer ≡ Wrote 0
+  pub fresh : (fresh_outcome s).answer ≡ Ok 0
   pub blocks : Unrefused (fresh_outcome s).carry calls
   pub count : ℕ
-  pub close : (close_outcome (carry_after (fresh_outcome s).carry calls) (length last)).answer ≡ Wrote count
+  pub close : (close_outcome (carry_after (fresh_outcome s).carry calls) (length last)).answer ≡ Ok count
 
 -- each list has the room that its block needs
 pub data Roomy (minimum : ℕ) : List Lent → Type 0 where

@@ -4,6 +4,7 @@ use Rattle.terms.specs.declared.Settings.{Settings}
 use Rattle.terms.specs.Rows.{verdict, ruled}
 use Rattle.rule.specs.Rule.{first_mark}
 use Rattle.lists.specs.declared.Made.{Made}
+use Rattle.lists.specs.Puts.{none_after}
 use Rattle.cutting.specs.Marks.{matches, mark}
 use Rattle.lists.specs.Written.{guard}
 use Rattle.pass_carry.specs.declared.Carry.{Carry}
@@ -36,7 +37,7 @@ is_cut settings left piece signature =
 
 -- the cuts before a block: none written, and the last
 abbrev pub begun : Carry → Made
-begun c = record { count = 0; cut = c.taken - c.since }
+begun c = none_after (c.taken - c.since)
 
 -- the carry so many bytes further, with these parts new
 abbrev pub advanced_by : (c : Carry) (bytes since : ℕ) (window : List ℕ) (signature : ℕ) → Carry

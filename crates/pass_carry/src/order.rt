@@ -1,75 +1,48 @@
 // Whether a carry is in order.
-ghost use Rattle.std.specs.Prelude.{◌≡◌, ◌-◌};
+ghost use Rattle.std.specs.Prelude.{◌≡◌, ◌-◌, take};
 ghost use Rattle.terms.specs.Rows.{verdict};
 ghost use Rattle.pass_carry.specs.Carries.{all_zero, in_order};
 ghost use Rattle.pass_carry.specs.Outcomes.{carry_rows};
 
 use super::Carry;
-use terms::{Refusal, Verdict};
+use signature::Tables;
+use terms::Refusal;
 
-fn all_zero(bytes: &[u8]) -> bool
-    ensures { result ≡ all_zero bytes.now }
-{
-    let mut i = 0;
-    while i < bytes.len() {
-        if bytes[i] != 0 {
-            return false;
+impl Carry {
+    // Whether the places of the window that lie before the log's start are zero.
+    fn zeros_first(&self) -> bool
+        ensures { result ≡ all_zero (take (48 - self.now.taken) self.now.window) }
+    {
+        let places = 48_u64.saturating_sub(self.taken) as usize;
+        self.window[..places].iter().all(|byte| *byte == 0)
+    }
+
+    #[tactic(auto, unfolding(crate::specs::Carries::in_order))]
+    pub fn in_order(&self) -> bool
+        ensures { result ≡ in_order self.now }
+    {
+        let signature = Tables::new().of_window(&self.window);
+        let zeros = self.zeros_first();
+        self.since <= self.taken
+            && self.since < self.settings.maximum
+            && self.signature == signature
+            && zeros
+            && self.taken <= terms::LONGEST
+            && self.closed <= 1
+    }
+
+    // A carry handed in: its settings, its order, whether it is closed.
+    #[tactic(auto, unfolding(crate::specs::Outcomes::carry_rows, terms::specs::Rows::verdict))]
+    pub fn judge(&self) -> Result<(), Refusal>
+        ensures { result ≡ verdict (carry_rows self.now) }
+    {
+        let _ = self.settings.checked()?;
+        if !self.in_order() {
+            return Err(Refusal::CarryNotInOrder);
         }
-        i += 1;
+        if self.closed == 1 {
+            return Err(Refusal::CarryClosed);
+        }
+        Ok(())
     }
-    true
-}
-
-// The places of a window that lie before the start of a log of which so many bytes are taken.
-fn places_before(taken: u64) -> usize
-    ensures { result ≡ 48 - taken }
-{
-    if taken < 48 { (48 - taken) as usize } else { 0 }
-}
-
-pub fn in_order(carry: Carry) -> bool
-    ensures { result ≡ in_order carry }
-{
-    let taken = carry.taken;
-    let since = carry.since;
-    if since > taken {
-        return false;
-    }
-    if since >= carry.settings.maximum {
-        return false;
-    }
-    let window = carry.window;
-    let tables = signature::tables();
-    let signature = signature::of_window(&window, 0, &tables);
-    if carry.signature != signature {
-        return false;
-    }
-    let n = places_before(taken);
-    if !all_zero(&window[..n]) {
-        return false;
-    }
-    if taken > terms::LONGEST {
-        return false;
-    }
-    if carry.closed > 1 {
-        return false;
-    }
-    true
-}
-
-// A carry handed in: its settings, its order, whether it is closed.
-pub fn judge(carry: Carry) -> Verdict
-    ensures { result ≡ verdict (carry_rows carry) }
-{
-    let settings = carry.settings;
-    if !settings.in_range() {
-        return Verdict::Wrong(Refusal::SettingsOutOfRange);
-    }
-    if !in_order(carry) {
-        return Verdict::Wrong(Refusal::CarryNotInOrder);
-    }
-    if carry.closed == 1 {
-        return Verdict::Wrong(Refusal::CarryClosed);
-    }
-    Verdict::Fine
 }

@@ -1,4 +1,5 @@
 -- Amending: its rows of the table, what it leaves and counts, and demand 3, the amended list.
+use Rattle.std.specs.Prelude.{Ok, Err}
 use Prim.Native.Nat.{ℕ, ◌+◌, ◌≤◌, ◌<◌}
 use mathlib.Core.Path.{◌≡◌, refl, sym, ◌∙◌}
 use mathlib.Core.Bool.{true}
@@ -10,7 +11,6 @@ use borrow.Author.Tests.{ltb-false}
 use Rattle.laws.proofs.Cases.{by_test}
 use Rattle.terms.specs.declared.Settings.{Settings}
 use Rattle.terms.specs.declared.Refusal.TheVariants.{ListFull}
-use Rattle.terms.specs.declared.Verdict.TheVariants.{Fine}
 use Rattle.terms.specs.Settings.{in_range}
 use Rattle.terms.specs.Answers.{longest}
 use Rattle.terms.specs.Rows.{verdict, first_row, Leaves}
@@ -24,8 +24,7 @@ use Rattle.cutting.specs.Calls.{cut_log_answer, cut_log_leaves}
 use Rattle.cutting.proofs.Reaching.{cuts_reach}
 use Rattle.lists.proofs.Written.{written_whole}
 use Rattle.amending.specs.declared.edits.Edit.{Edit}
-use Rattle.amending.specs.declared.Amendment.{Amendment}
-use Rattle.amending.specs.declared.Amendment.TheVariants.{Amended, Refused}
+use Rattle.amending.specs.Answers.{Amendment}
 use Rattle.amending.specs.Parts.{front, past_front, restart, recut, back, amended_list, stretch_end}
 use Rattle.amending.specs.Told.{FrontTold, Recut}
 use Rattle.amending.specs.Answers.{amendment_number, front_of, recut_of, back_of, new_cuts_of, edit_fits, counts, amend_rows, amend_answer, amend_leaves}
@@ -43,13 +42,13 @@ edit_told_exactly n edit bytes = (edit_told n edit bytes, λ told. edit_fits_lem
 -- beside a refusal each count is 0
 pub amend_uncounted : (answer : Amendment) → (amendment_number answer ≡ 0 → ⊥) → Counts answer 0 0 0
 unfolding amendment_number front_of recut_of back_of
-amend_uncounted (Amended f r b) refusal = absurd (refusal refl)
-amend_uncounted (Refused why) refusal = record { kept = refl; anew = refl; moved = refl }
+amend_uncounted (Ok counts) refusal = absurd (refusal refl)
+amend_uncounted (Err why) refusal = record { kept = refl; anew = refl; moved = refl }
 
 module _ (settings : Settings) (old : List ℕ) (edit : Edit) (log : List ℕ) where
   pub amend_rows_lem : (room : ℕ) → amendment_number (amend_answer settings old edit log room) ≡ first_row (amend_rows settings old edit log room)
   unfolding amendment_number amend_answer
-  amend_rows_lem room = through amendment_number (verdict (amend_rows settings old edit log room)) Refused (counts (new_cuts_of settings log) old edit)
+  amend_rows_lem room = through amendment_number (verdict (amend_rows settings old edit log room)) Err (counts (new_cuts_of settings log) old edit)
 
   pub amend_leaves_lem : (list : List ℕ)
       → Leaves (amendment_number (amend_answer settings old edit log (length list))) 17 list (written_list (amended_list (new_cuts_of settings log) old edit) list)
@@ -57,7 +56,7 @@ module _ (settings : Settings) (old : List ℕ) (edit : Edit) (log : List ℕ) w
   unfolding amend_leaves
   amend_leaves_lem list = rw (amend_rows_lem (length list)) (refused_leaves (verdict (amend_rows settings old edit log (length list))) ListFull)
 
-  roomy : (room : ℕ) → verdict (amend_rows settings old edit log room) ≡ Fine → length (amended_list (new_cuts_of settings log) old edit) ≤ room
+  roomy : (room : ℕ) → verdict (amend_rows settings old edit log room) ≡ Ok tt → length (amended_list (new_cuts_of settings log) old edit) ≤ room
   unfolding amend_rows
   roomy room fine = ltb-false _ _ (clear _ _ _ (clear _ _ _ (clear _ _ _ (clear _ _ _ (clear _ _ _ (clear _ _ _ fine).1).1).1).1).1).0
 

@@ -1,4 +1,5 @@
 -- Any board that is accepted, true or not; and what a segment's record holds.
+use Rattle.std.specs.Prelude.{Ok}
 use Prim.Native.Nat.{ℕ, ◌≤◌, ◌<◌}
 use mathlib.Core.Path.{◌≡◌, sym, ◌∙◌}
 use mathlib.Core.Bool.{true}
@@ -10,7 +11,6 @@ use borrow.Author.Tests.{leb-true, ltb-true, ltb-false}
 use Rattle.laws.proofs.Cases.{both_true}
 use Rattle.terms.specs.declared.Settings.{Settings}
 use Rattle.terms.specs.declared.Refusal.TheVariants.{RoomTooShort, ListFull}
-use Rattle.terms.specs.declared.Verdict.TheVariants.{Fine}
 use Rattle.terms.specs.Settings.{in_range}
 use Rattle.terms.specs.Answers.{answer_number, longest, room_for}
 use Rattle.terms.specs.Rows.{row, verdict, lacks}
@@ -36,7 +36,7 @@ use Rattle.promises.specs.Boards.{EndsAt}
 use Rattle.promises.proofs.BoardRows.{merge_rows_lem}
 
 module _ (s : Settings) (n size width : ℕ) (board : List ℕ) (ok : in_range s ≡ true) (sized : 0 < size)
-    (accepted : verdict (bays_rows s n size width board (segments n size) 0) ≡ Fine) where
+    (accepted : verdict (bays_rows s n size width board (segments n size) 0) ≡ Ok tt) where
   -- the walk's list is the one-pass rule's, with the offsets that the board lists for marks
   pub walk_by_the_rule : board_walk s n size width board ≡ cuts (listed_on size width board) s.minimum s.maximum n
   walk_by_the_rule = let r = ranges s ok in any.walk_by_the_rule s r.positive r.ordered n size width board sized accepted

@@ -1,5 +1,6 @@
 -- The calls on a board, row by row: the rows stand in document 01's order, the number is that of the first that holds, the count
 -- beside it is 0 where one does, and lent memory stays as it was but for one number: 17 keeps the cuts written, 6 what it wrote into the bay.
+use Rattle.std.specs.Prelude.{Err}
 use Prim.Native.Nat.{ℕ, ◌+◌, ◌-◌}
 use mathlib.Core.Path.{◌≡◌, sym, ◌∙◌}
 use mathlib.Core.Bool.{false}
@@ -11,7 +12,6 @@ use Rattle.board_bays.specs.Segments.{bay_fits, segment_fits}
 use Rattle.board_bays.specs.Judging.{call_rows}
 use Rattle.board_bays.proofs.Verdicts.{plain_call}
 use Rattle.terms.specs.declared.Settings.{Settings}
-use Rattle.terms.specs.declared.Answer.TheVariants.{Refused}
 use Rattle.terms.specs.declared.Refusal.TheVariants.{RecordTooLong, ListFull}
 use Rattle.terms.specs.Answers.{answer_number, answer_count}
 use Rattle.terms.specs.Rows.{verdict, ruled, first_row, Leaves}
@@ -29,12 +29,12 @@ use Rattle.promises.specs.Boards.{OthersStay}
 module _ (s : Settings) (n size width : ℕ) (board : List ℕ) where
   pub merge_rows_lem : (room : ℕ) → answer_number (merge_answer s n size width board room) ≡ first_row (merge_rows s n size width board room)
   unfolding answer_number merge_answer
-  merge_rows_lem room = through answer_number (verdict (merge_rows s n size width board room)) Refused _
+  merge_rows_lem room = through answer_number (verdict (merge_rows s n size width board room)) Err _
 
   pub merge_count : (room : ℕ)
       → answer_count (merge_answer s n size width board room) ≡ ruled (verdict (merge_rows s n size width board room)) (λ _. 0) (length (board_walk s n size width board))
   unfolding answer_count merge_answer
-  merge_count room = through answer_count (verdict (merge_rows s n size width board room)) Refused _
+  merge_count room = through answer_count (verdict (merge_rows s n size width board room)) Err _
 
   pub merge_leaves_lem : (list : List ℕ)
       → Leaves (answer_number (merge_answer s n size width board (length list))) 17 list (written_list (board_walk s n size width board) list) (merge_leaves s n size width board list)
@@ -45,12 +45,12 @@ module _ (s : Settings) (n size width : ℕ) (board : List ℕ) where
 module _ (s : Settings) (log : List ℕ) (size i : ℕ) where
   pub record_rows_lem : (width : ℕ) → answer_number (record_answer s log size width i) ≡ first_row (record_rows s log size width i)
   unfolding answer_number record_answer
-  record_rows_lem width = through answer_number (verdict (record_rows s log size width i)) Refused _
+  record_rows_lem width = through answer_number (verdict (record_rows s log size width i)) Err _
 
   pub record_count : (width : ℕ)
       → answer_count (record_answer s log size width i) ≡ ruled (verdict (record_rows s log size width i)) (λ _. 0) (2 + length (segment_of s log size i).offsets)
   unfolding answer_count record_answer
-  record_count width = through answer_count (verdict (record_rows s log size width i)) Refused _
+  record_count width = through answer_count (verdict (record_rows s log size width i)) Err _
 
   pub record_leaves_lem : (bay : List ℕ)
       → Leaves (answer_number (record_answer s log size (length bay) i)) 6 bay (recorded (segment_of s log size i) bay) (record_leaves s log size i bay)
@@ -71,12 +71,12 @@ module _ (s : Settings) (log : List ℕ) (size i : ℕ) where
 module _ (s : Settings) (log : List ℕ) (size width i : ℕ) where
   pub segment_rows_lem : (entries : ℕ) → answer_number (segment_answer s log size width i entries) ≡ first_row (segment_rows s log size width i entries)
   unfolding answer_number segment_answer
-  segment_rows_lem entries = through answer_number (verdict (segment_rows s log size width i entries)) Refused _
+  segment_rows_lem entries = through answer_number (verdict (segment_rows s log size width i entries)) Err _
 
   pub segment_count : (entries : ℕ)
       → answer_count (segment_answer s log size width i entries) ≡ ruled (verdict (segment_rows s log size width i entries)) (λ _. 0) (2 + length (segment_of s log size i).offsets)
   unfolding answer_count segment_answer
-  segment_count entries = through answer_count (verdict (segment_rows s log size width i entries)) Refused _
+  segment_count entries = through answer_count (verdict (segment_rows s log size width i entries)) Err _
 
   pub segment_leaves_lem : (board : List ℕ)
       → Leaves (answer_number (segment_answer s log size width i (length board))) 6 board (with_bay width i (recorded (segment_of s log size i) (bay_of width i board)) board)

@@ -1,4 +1,5 @@
 -- Number 17 is never answered: the room that is tested first holds every cut. (Merging's is in AnyBoard.)
+use Rattle.std.specs.Prelude.{Ok}
 use Prim.Native.Nat.{ℕ, ◌+◌, ◌-◌, ◌/◌, ◌≤◌, ◌<◌}
 use mathlib.Core.Path.{◌≡◌, refl, sym, subst, ◌∙◌}
 use mathlib.Core.Bool.{Bool, true, false, not}
@@ -9,7 +10,6 @@ use lib.ListN.{length}
 use borrow.Author.Tests.{ltb-true, ltb-false, not-false}
 use Rattle.terms.specs.declared.Settings.{Settings}
 use Rattle.terms.specs.declared.Refusal.TheVariants.{SettingsOutOfRange, LogTooLong, RoomTooShort, ListNotWellFormed, EditOutOfRange, ListFull}
-use Rattle.terms.specs.declared.Verdict.TheVariants.{Fine}
 use Rattle.terms.specs.Settings.{in_range}
 use Rattle.terms.specs.Answers.{answer_number, longest, room_for}
 use Rattle.terms.specs.Rows.{Row, row, verdict, first_row, lacks}
@@ -37,7 +37,7 @@ use Rattle.promises.proofs.Amending.{amend_rows_lem, amended_again}
 
 -- a table whose last row is the guard: it is not answered where the rows before it leave room for the cuts
 unguarded : (rows : List Row) (cuts : List ℕ) (room number : ℕ) → lacks ListFull rows ≡ true → number ≡ first_row (rows ++ (guard cuts room ∷ []))
-    → (verdict rows ≡ Fine → length cuts ≤ room) → number ≡ 17 → ⊥
+    → (verdict rows ≡ Ok tt → length cuts ≤ room) → number ≡ 17 → ⊥
 unguarded rows cuts room number plain is fits full =
     let last = last_holds ListFull rows (ltb room (length cuts)) plain (lit< tt) (sym is ∙ full) in
     omega (arith, ltb-true room (length cuts) last.1, fits last.0)
@@ -53,7 +53,7 @@ module _ (settings : Settings) (log : List ℕ) (room : ℕ) where
   abbrev before : List Row
   before = row SettingsOutOfRange (not (in_range settings)) ∷ row LogTooLong (ltb longest (length log)) ∷ row RoomTooShort (ltb room (room_for settings.minimum (length log))) ∷ []
 
-  whole_log_fits : verdict before ≡ Fine → length (cut_list settings log) ≤ room
+  whole_log_fits : verdict before ≡ Ok tt → length (cut_list settings log) ≤ room
   whole_log_fits v =
       let a = clear SettingsOutOfRange (not (in_range settings)) _ v in
       let b = clear LogTooLong (ltb longest (length log)) _ a.1 in
@@ -71,7 +71,7 @@ module _ (c : Carry) (block : List ℕ) (room : ℕ) where
   abbrev block_before : List Row
   block_before = carry_rows c ++ (row LogTooLong (ltb longest (c.taken + length block)) ∷ row RoomTooShort (ltb room (room_for c.settings.minimum (length block))) ∷ [])
 
-  block_fits : verdict block_before ≡ Fine → length (cuts_in c block) ≤ room
+  block_fits : verdict block_before ≡ Ok tt → length (cuts_in c block) ≤ room
   unfolding carry_rows
   block_fits v =
       let (judged, later) = both_clear (carry_rows c) _ v in
@@ -94,7 +94,7 @@ module _ (settings : Settings) (old : List ℕ) (edit : Edit) (log : List ℕ) (
       ∷ row RoomTooShort (ltb room (room_for settings.minimum (length log)))
       ∷ []
 
-  amend_fits : verdict amend_before ≡ Fine → length (amended_list (new_cuts_of settings log) old edit) ≤ room
+  amend_fits : verdict amend_before ≡ Ok tt → length (amended_list (new_cuts_of settings log) old edit) ≤ room
   amend_fits v =
       let a = clear SettingsOutOfRange (not (in_range settings)) _ v in
       let b = clear ListNotWellFormed (not (well_formed settings.minimum settings.maximum old)) _ a.1 in

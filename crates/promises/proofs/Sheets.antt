@@ -1,6 +1,7 @@
 -- The two calls of the sheet: their numbers by their tables of rows, what a refusal leaves, and the values beside each answer.
-use Prim.Native.Nat.{ℕ, ◌+◌, ◌-◌, ◌*◌}
-use mathlib.Core.Path.{◌≡◌, sym, ◌∙◌}
+use Rattle.std.specs.Prelude.{Err}
+use Prim.Native.Nat.{ℕ, ◌+◌, ◌*◌}
+use mathlib.Core.Path.{◌≡◌, sym, ap, ◌∙◌}
 use mathlib.Core.List.{List}
 use lib.ListN.{length, take, drop}
 use lib.Seq.{drop-append_seam}
@@ -8,7 +9,7 @@ use Rattle.laws.specs.Over.{over}
 use Rattle.laws.proofs.Writing.{take_over}
 use Rattle.terms.specs.declared.Settings.{Settings}
 use Rattle.terms.specs.declared.Label.{Label}
-use Rattle.terms.specs.declared.Answer.TheVariants as answer
+use Rattle.terms.specs.Labels.{byte_of}
 use Rattle.terms.specs.Answers.{answer_number, answer_count}
 use Rattle.terms.specs.Rows.{verdict, first_row}
 use Rattle.terms.proofs.Verdicts.{by_verdict, through, refused_keeps, none_holds}
@@ -18,12 +19,11 @@ use Rattle.sheet_format.specs.Clean.{trailer_of, list_in}
 use Rattle.sheet_format.proofs.Forms.{cuts_formed}
 use Rattle.sheet_format.proofs.Cleanly.{clean, length_list}
 use Rattle.sheet_format.proofs.RoundTrip.{length_sheet}
-use Rattle.sheet.specs.declared.Sheet.TheVariants as sheet
 use Rattle.sheet.specs.Write.{write_sheet_rows, write_sheet_answer, write_sheet_leaves}
 use Rattle.sheet.specs.Read.{read_sheet_rows, read_sheet_answer, read_sheet_leaves}
 use Rattle.sheet.specs.Answers.{sheet_number, sheet_label, sheet_settings, sheet_count}
 use Rattle.sheet.proofs.Writing.{writable}
-use Rattle.sheet.proofs.Reading.{passed}
+use Rattle.sheet.proofs.Reading.{own_label, passed}
 use Rattle.promises.specs.Sheets.{NothingRead, ReadOut, WrittenOut}
 
 -- what stands past the entries that are written over others
@@ -35,7 +35,7 @@ past_over l b n e = rw (← e) (take_over l b, drop-append_seam l (drop (length 
 module _ (settings : Settings) (list : List ℕ) where
   pub write_sheet_rows_lem : (room : ℕ) → answer_number (write_sheet_answer settings list room) ≡ first_row (write_sheet_rows settings list room)
   unfolding answer_number write_sheet_answer
-  write_sheet_rows_lem room = through answer_number (verdict (write_sheet_rows settings list room)) answer.Refused _
+  write_sheet_rows_lem room = through answer_number (verdict (write_sheet_rows settings list room)) Err _
 
   pub write_sheet_leaves_lem : (label : Label) (bytes : List ℕ) → (answer_number (write_sheet_answer settings list (length bytes)) ≡ 0 → ⊥)
       → write_sheet_leaves settings label list bytes ≡ bytes
@@ -61,7 +61,7 @@ module _ (settings : Settings) (list : List ℕ) where
 module _ (bytes : List ℕ) (asked : Label) where
   pub read_sheet_rows_lem : (room : ℕ) → sheet_number (read_sheet_answer bytes asked room) ≡ first_row (read_sheet_rows bytes asked room)
   unfolding sheet_number read_sheet_answer
-  read_sheet_rows_lem room = through sheet_number (verdict (read_sheet_rows bytes asked room)) sheet.Refused _
+  read_sheet_rows_lem room = through sheet_number (verdict (read_sheet_rows bytes asked room)) Err _
 
   pub read_sheet_leaves_lem : (list : List ℕ) → (sheet_number (read_sheet_answer bytes asked (length list)) ≡ 0 → ⊥) → read_sheet_leaves bytes asked list ≡ list
   unfolding read_sheet_leaves
@@ -80,4 +80,4 @@ module _ (bytes : List ℕ) (asked : Label) where
       let v = none_holds (verdict (read_sheet_rows bytes asked (length list))) (sym (read_sheet_rows_lem (length list)) ∙ e) in
       let r = passed bytes asked (length list) v in
       let p = past_over (list_in bytes) list (trailer_of bytes).count (length_list cuts_form bytes (clean cuts_form bytes r.reads)) in
-      record { label = rw v r.labelled; settings = rw v; count = rw v; entries = rw v p.0; others_stay = rw v p.1 }
+      record { label = rw v (ap byte_of (own_label asked r.labelled)); settings = rw v; count = rw v; entries = rw v p.0; others_stay = rw v p.1 }

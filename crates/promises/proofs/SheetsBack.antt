@@ -1,4 +1,5 @@
 -- Demand 2, second half: sheets are written and read back exactly.
+use Rattle.std.specs.Prelude.{Ok, Err}
 use Prim.Native.Nat.{ℕ, ◌+◌, ◌-◌, ◌*◌, ◌%◌, ◌^◌, ◌≤◌, ◌<◌}
 use mathlib.Core.Path.{◌≡◌, refl, sym, ap, ◌∙◌}
 use mathlib.Core.List.{List, [], ◌++◌}
@@ -10,9 +11,7 @@ use Rattle.laws.proofs.Writing.{take_over}
 use Rattle.terms.specs.declared.Settings.{Settings}
 use Rattle.terms.specs.declared.Label.{Label}
 use Rattle.terms.specs.declared.Label.TheVariants.{Practice}
-use Rattle.terms.specs.declared.Answer.TheVariants as answer
 use Rattle.terms.specs.declared.Refusal.{Refusal}
-use Rattle.terms.specs.declared.Verdict.TheVariants.{Fine}
 use Rattle.terms.specs.Labels.{byte_of}
 use Rattle.terms.specs.Rows.{verdict}
 use Rattle.words.specs.Numbers.{big_endian, written, numbers, numbers_of}
@@ -28,17 +27,17 @@ use Rattle.sheet_format.proofs.Cleanly.{cleanly, clean}
 use Rattle.sheet_format.proofs.RoundTrip.{Found, found, length_sheet, bytes_sheet}
 use Rattle.sheet_format.proofs.Canonical as format
 use Rattle.sheet_format.proofs.Damage.{words_add, damage_found}
-use Rattle.sheet.specs.declared.Sheet.TheVariants.{Read, Refused}
+use Rattle.sheet.specs.Answers.{read, sheet_settings}
 use Rattle.sheet.specs.Write.{write_sheet_rows, write_sheet_answer, write_sheet_leaves}
 use Rattle.sheet.specs.Read.{read_sheet_rows, read_sheet_answer, read_sheet_leaves}
 use Rattle.sheet.proofs.Writing.{Writable, writable}
-use Rattle.sheet.proofs.Reading.{none_refuses, was_read, not_read}
+use Rattle.sheet.proofs.Reading.{own_label, none_refuses, was_read, not_read}
 use Rattle.promises.specs.Sheets.{LaidOut, Sound, figure_settings, figure_list, figure_bytes}
 use Rattle.promises.proofs.Successes.{succeeds}
 
 -- a call that wrote a sheet of so many bytes
-module _ (settings : Settings) (label : Label) (list bytes : List ℕ) {size : ℕ} (wrote : write_sheet_answer settings list (length bytes) ≡ answer.Wrote size) where
-  passed : (verdict (write_sheet_rows settings list (length bytes)) ≡ Fine) × (8 * length list + 32 ≡ size)
+module _ (settings : Settings) (label : Label) (list bytes : List ℕ) {size : ℕ} (wrote : write_sheet_answer settings list (length bytes) ≡ Ok size) where
+  passed : (verdict (write_sheet_rows settings list (length bytes)) ≡ Ok tt) × (8 * length list + 32 ≡ size)
   unfolding write_sheet_answer
   passed = succeeds (verdict (write_sheet_rows settings list (length bytes))) (8 * length list + 32) wrote
 
@@ -67,15 +66,15 @@ module _ (settings : Settings) (label : Label) (list bytes : List ℕ) {size : �
 
   -- written, then read with any bytes before it: the same label, settings and list
   pub round_trip : (before lent : List ℕ) → length list ≤ length lent
-      → (read_sheet_answer (before ++ take size (write_sheet_leaves settings label list bytes)) label (length lent) ≡ Read (byte_of label) settings (length list))
+      → (read_sheet_answer (before ++ take size (write_sheet_leaves settings label list bytes)) label (length lent) ≡ read label settings (length list))
       × (read_sheet_leaves (before ++ take size (write_sheet_leaves settings label list bytes)) label lent ≡ over list lent)
   unfolding read_sheet_answer read_sheet_leaves trailer_for
   round_trip before lent roomy =
       let sheet = before ++ sheet_of cuts_form settings label list in
       let back = read_back before in
-      let v : verdict (read_sheet_rows sheet label (length lent)) ≡ Fine =
+      let v : verdict (read_sheet_rows sheet label (length lent)) ≡ Ok tt =
       none_refuses sheet label (length lent) (cleanly back.clean) (the_label before) (rw (the_count before) roomy) in
-      rw written_there (rw (v, back.trailer), rw (v, back.the_list))
+      rw written_there (rw (v, back.trailer, own_label label refl), rw (v, back.the_list))
 
   -- what is written reads cleanly, whatever stands before it: so what is promised below of clean bytes holds of it
   pub written_cleanly : (before : List ℕ) → Sound (before ++ take size (write_sheet_leaves settings label list bytes)) (take size (write_sheet_leaves settings label list bytes))
@@ -112,14 +111,12 @@ module _ (settings : Settings) (label : Label) (list bytes : List ℕ) {size : �
       })
 
 -- settings, list and label fix every byte: a sheet that reads is the one that the writer makes of what was read
-pub canonical : (bytes : List ℕ) (asked : Label) (room : ℕ) {label count : ℕ} {settings : Settings} → Bytes bytes → read_sheet_answer bytes asked room ≡ Read label settings count
+pub canonical : (bytes : List ℕ) (asked : Label) (room : ℕ) {label : Label} {count : ℕ} {settings : Settings} → Bytes bytes → read_sheet_answer bytes asked room ≡ read label settings count
     → sheet_in bytes ≡ sheet_of cuts_form settings asked (list_in bytes)
+unfolding sheet_settings
 canonical bytes asked room h e =
     let r = was_read bytes asked room e in
-    rw (same r.1) (format.canonical cuts_form bytes h asked (clean cuts_form bytes r.0.reads) r.0.labelled)
-  where
-    same : {k l c d : ℕ} {s t : Settings} → Read k s c ≡ Read l t d → t ≡ s
-    same p = cc
+    rw (sym (ap sheet_settings r.1)) (format.canonical cuts_form bytes h asked (clean cuts_form bytes r.0.reads) r.0.labelled)
 
 -- bytes that read cleanly
 module _ (bytes : List ℕ) (reads : ReadsCleanly cuts_form bytes) where
@@ -130,7 +127,7 @@ module _ (bytes : List ℕ) (reads : ReadsCleanly cuts_form bytes) where
   -- one damaged 32-bit word, in body or trailer, is always refused, whatever stands before the sheet and whatever is asked
   pub one_damaged_word : Bytes bytes → (k word : ℕ) (before : List ℕ) (asked : Label) (room : ℕ)
       → k < length (numbers_of 4 (sheet_in bytes)) → word < 2 ^ 32 → (word ≡ get_or (numbers_of 4 (sheet_in bytes)) k 0 → ⊥)
-      → (why : Refusal) × (read_sheet_answer (before ++ damaged k word (sheet_in bytes)) asked room ≡ Refused why)
+      → (why : Refusal) × (read_sheet_answer (before ++ damaged k word (sheet_in bytes)) asked room ≡ Err why)
   one_damaged_word h k word before asked room inside fits differs = not_read _ asked room (damage_found bytes reads h before k word inside fits differs)
 
 -- log C's list as practice, byte by byte

@@ -1,4 +1,5 @@
 -- The single pass: its rows, a carry in order, what its calls hand back and leave, and demand 2 for it.
+use Rattle.std.specs.Prelude.{Ok, Err}
 use Prim.Native.Nat.{ℕ, zero, suc, ◌+◌, ◌-◌, ◌≤◌, ◌<◌}
 use mathlib.Core.Path.{◌≡◌, refl, sym, ap, ◌∙◌}
 use mathlib.Core.Bool.{true}
@@ -11,11 +12,9 @@ use lib.ListN.{length, take, drop, get_or, replicate}
 use borrow.Author.Tests.{leb-true, ltb-true, ltb-false, eqb-true, le-leb, lt-ltb, eq-eqb}
 use Rattle.laws.proofs.Cases.{both_true}
 use Rattle.terms.specs.declared.Settings.{Settings}
-use Rattle.terms.specs.declared.Answer.{Answer}
-use Rattle.terms.specs.declared.Answer.TheVariants.{Wrote}
+use Rattle.terms.specs.Answers.{Answer}
 use Rattle.terms.specs.declared.Refusal.TheVariants.{ListFull}
-use Rattle.terms.specs.declared.Verdict.{Verdict}
-use Rattle.terms.specs.declared.Verdict.TheVariants.{Fine, Wrong}
+use Rattle.terms.specs.Rows.{Verdict}
 use Rattle.terms.specs.Settings.{in_range}
 use Rattle.terms.specs.Answers.{answer_number, answer_count, longest}
 use Rattle.terms.specs.Rows.{verdict, ruled, first_row, Leaves}
@@ -103,8 +102,8 @@ close_rows_lem c room = through pass_number (verdict (close_rows c room)) (refus
 
 hands_back : (c : Carry) (v : Verdict) (after : Carry) (n : ℕ) → HandsBack c (ruled v (refused c) (wrote after n))
 unfolding answer_number answer_count
-hands_back c Fine after n = record { uncounted = λ refusal. absurd (refusal refl); unaltered = λ refusal. absurd (refusal refl) }
-hands_back c (Wrong why) after n = record { uncounted = λ _. refl; unaltered = λ _. refl }
+hands_back c (Ok tt) after n = record { uncounted = λ refusal. absurd (refusal refl); unaltered = λ refusal. absurd (refusal refl) }
+hands_back c (Err why) after n = record { uncounted = λ _. refl; unaltered = λ _. refl }
 
 -- a refused fresh hands out a carry with every part 0, a refused block or close its own
 pub fresh_leaves : (s : Settings) → HandsBack zero_carry (fresh_outcome s)
@@ -130,8 +129,8 @@ unfolding close_leaves
 close_leaves_lem c list refusal = refused_keeps (verdict (close_rows c (length list))) list _ (rw (close_rows_lem c (length list)) at refusal)
 
 -- a success counts the cuts written, the entries past them stay, and the carry is that of the bytes taken one by one
-module _ (c : Carry) (block list : List ℕ) {k : ℕ} (e : (block_outcome c block (length list)).answer ≡ Wrote k) where
-  block_fine : verdict (block_rows c block (length list)) ≡ Fine
+module _ (c : Carry) (block list : List ℕ) {k : ℕ} (e : (block_outcome c block (length list)).answer ≡ Ok k) where
+  block_fine : verdict (block_rows c block (length list)) ≡ Ok tt
   block_fine = unfold block_outcome in pass.succeeds (verdict (block_rows c block (length list))) c (block_taken c block) (length (cuts_in c block)) e
 
   pub block_written : Lists list (block_leaves c block list) (cuts_in c block) k
@@ -146,8 +145,8 @@ module _ (c : Carry) (block list : List ℕ) {k : ℕ} (e : (block_outcome c blo
   block_carries = rw block_fine
 
 -- closing marks the carry closed, its other parts kept, and writes the log's end where bytes have come since the last cut
-module _ (c : Carry) (list : List ℕ) {k : ℕ} (e : (close_outcome c (length list)).answer ≡ Wrote k) where
-  close_fine : verdict (close_rows c (length list)) ≡ Fine
+module _ (c : Carry) (list : List ℕ) {k : ℕ} (e : (close_outcome c (length list)).answer ≡ Ok k) where
+  close_fine : verdict (close_rows c (length list)) ≡ Ok tt
   close_fine = unfold close_outcome in pass.succeeds (verdict (close_rows c (length list))) c (closed_carry c) (length (closing_cut c)) e
 
   pub closing_closes : (close_outcome c (length list)).carry
@@ -165,7 +164,7 @@ module _ (c : Carry) (list : List ℕ) {k : ℕ} (e : (close_outcome c (length l
       }
 
 -- the carry once blocks of any lengths are taken is that of their bytes, part by part, and the cuts written are those known by then
-pub carry_of_blocks : (s : Settings) (calls : List Lent) → (fresh_outcome s).answer ≡ Wrote 0 → Unrefused (fresh_outcome s).carry calls
+pub carry_of_blocks : (s : Settings) (calls : List Lent) → (fresh_outcome s).answer ≡ Ok 0 → Unrefused (fresh_outcome s).carry calls
     → CarryOf s (joined calls) (blocks_written (fresh_outcome s).carry calls) (carry_after (fresh_outcome s).carry calls)
 unfolding cuts_up_to
 carry_of_blocks s calls e all =

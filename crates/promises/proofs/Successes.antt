@@ -1,31 +1,28 @@
 -- A success of a call that writes cuts by a table of rows: no row holds, and the list is written whole.
+use Rattle.std.specs.Prelude.{Ok, Err}
 use Prim.Native.Nat.{ℕ, ◌≤◌}
-use mathlib.Core.Path.{◌≡◌, sym}
+use mathlib.Core.Path.{◌≡◌, sym, ap}
 use mathlib.Core.List.{List}
 use lib.ListN.{length}
 use Rattle.laws.proofs.Cases.{impossible}
-use Rattle.terms.specs.declared.Answer.TheVariants.{Wrote, Refused}
 use Rattle.terms.specs.declared.Refusal.{Refusal}
 use Rattle.terms.specs.declared.Refusal.TheVariants.{ListFull}
-use Rattle.terms.specs.declared.Verdict.{Verdict}
-use Rattle.terms.specs.declared.Verdict.TheVariants.{Fine}
-use Rattle.terms.specs.Rows.{ruled, leaves}
+use Rattle.terms.specs.Answers.{answer_count}
+use Rattle.terms.specs.Rows.{Verdict, ruled, leaves}
 use Rattle.terms.proofs.Verdicts.{succeeded}
 use Rattle.lists.specs.Written.{written_list}
 use Rattle.lists.proofs.Written.{written_whole}
 use Rattle.promises.specs.OneList.{Lists}
 
 -- a call that wrote: no row holds, and the count is what was to be written
-pub succeeds : (v : Verdict) (m : ℕ) {k : ℕ} → ruled v Refused (Wrote m) ≡ Wrote k → (v ≡ Fine) × (m ≡ k)
-succeeds v m {k} e = let f = succeeded v Refused (Wrote m) e never in (f.0, same f.1)
+pub succeeds : (v : Verdict) (m : ℕ) {k : ℕ} → ruled v Err (Ok m) ≡ Ok k → (v ≡ Ok tt) × (m ≡ k)
+unfolding answer_count
+succeeds v m {k} e = let f = succeeded v Err (Ok m) e never in (f.0, ap answer_count f.1)
   where
-    never : (why : Refusal) → Refused why ≡ Wrote k → ⊥
+    never : (why : Refusal) → Err why ≡ Ok k → ⊥
     never why p = impossible (cc)
 
-    same : {a b : ℕ} → Wrote a ≡ Wrote b → a ≡ b
-    same p = cc
-
-pub wrote_all : (v : Verdict) (cuts list : List ℕ) {k : ℕ} → ruled v Refused (Wrote (length cuts)) ≡ Wrote k → (v ≡ Fine → length cuts ≤ length list)
+pub wrote_all : (v : Verdict) (cuts list : List ℕ) {k : ℕ} → ruled v Err (Ok (length cuts)) ≡ Ok k → (v ≡ Ok tt → length cuts ≤ length list)
     → Lists list (leaves v ListFull list (written_list cuts list)) cuts k
 wrote_all v cuts list e fits =
     let f = succeeds v (length cuts) e in

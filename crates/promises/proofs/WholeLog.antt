@@ -1,4 +1,5 @@
 -- Demand 2, first half: marks follow Rabin's fingerprint, cuts the one-pass rule, and a whole log that is not refused gets that one list.
+use Rattle.std.specs.Prelude.{Ok, Err}
 use Prim.Native.Nat.{ℕ, ◌-◌, ◌%◌, ◌^◌, ◌≤◌, ◌<◌}
 use mathlib.Core.Path.{◌≡◌, refl, sym, ap, ◌∙◌}
 use mathlib.Core.Bool.{true}
@@ -11,7 +12,6 @@ use lib.ListN.{length}
 use borrow.Author.Tests.{leb-true, ltb-false, eqb-true, le-leb, eq-eqb}
 use Rattle.laws.proofs.Cases.{both_true}
 use Rattle.terms.specs.declared.Settings.{Settings}
-use Rattle.terms.specs.declared.Answer.TheVariants.{Wrote, Refused}
 use Rattle.terms.specs.declared.Refusal.TheVariants.{ListFull}
 use Rattle.terms.specs.Settings.{in_range}
 use Rattle.terms.specs.Answers.{answer_number, longest}
@@ -124,7 +124,7 @@ module _ (settings : Settings) (log : List ℕ) where
 
   pub whole_log_rows : (room : ℕ) → answer_number (cut_log_answer settings log room) ≡ first_row (cut_log_rows settings log room)
   unfolding answer_number cut_log_answer
-  whole_log_rows room = through answer_number (verdict (cut_log_rows settings log room)) Refused _
+  whole_log_rows room = through answer_number (verdict (cut_log_rows settings log room)) Err _
 
   pub whole_log_leaves : (list : List ℕ)
       → Leaves (answer_number (cut_log_answer settings log (length list))) 17 list (written_list (cut_list settings log) list) (cut_log_leaves settings log list)
@@ -132,7 +132,7 @@ module _ (settings : Settings) (log : List ℕ) where
   whole_log_leaves list = rw (whole_log_rows (length list)) (refused_leaves (verdict (cut_log_rows settings log (length list))) ListFull)
 
   -- a success counts the log's cuts, and writes them over the list's first entries
-  pub whole_log : (list : List ℕ) {k : ℕ} → cut_log_answer settings log (length list) ≡ Wrote k → Lists list (cut_log_leaves settings log list) (cut_list settings log) k
+  pub whole_log : (list : List ℕ) {k : ℕ} → cut_log_answer settings log (length list) ≡ Ok k → Lists list (cut_log_leaves settings log list) (cut_list settings log) k
   unfolding cut_log_answer cut_log_leaves cut_log_rows
   whole_log list e =
       wrote_all (verdict (cut_log_rows settings log (length list))) (cut_list settings log) list e

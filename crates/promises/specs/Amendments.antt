@@ -1,9 +1,9 @@
 -- What an amendment counts, and that it answers and leaves what a fresh cut does: document 01, "Amending".
 use Rattle.std.specs.Prelude.{ℕ, ◌+◌, ◌≡◌, List, ◌++◌, length}
 use Rattle.laws.specs.Over.{over}
-use Rattle.terms.specs.declared.Answer.{Answer}
+use Rattle.terms.specs.Answers.{Answer}
 use Rattle.terms.specs.Answers.{answer_number, answer_count}
-use Rattle.amending.specs.declared.Amendment.{Amendment}
+use Rattle.amending.specs.Answers.{Amendment}
 use Rattle.amending.specs.Answers.{amendment_number, front_of, recut_of, back_of}
 
 -- the three counts of an answer

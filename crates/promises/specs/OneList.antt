@@ -1,10 +1,9 @@
 -- What a mark is, as a polynomial divided; and a success that wrote a whole list.
-use Rattle.std.specs.Prelude.{ℕ, ◌+◌, ◌-◌, ◌%◌, ◌^◌, ◌≤◌, ◌<◌, ◌≡◌, List, [], ◌∷◌, length}
+use Rattle.std.specs.Prelude.{ℕ, ◌+◌, ◌-◌, ◌%◌, ◌^◌, ◌≤◌, ◌<◌, ◌≡◌, List, [], ◌∷◌, length, Ok}
 use Rattle.std.specs.Int.Bits.{bit_xor}
 use Rattle.laws.specs.Over.{over}
 use Rattle.terms.specs.declared.Settings.{Settings}
-use Rattle.terms.specs.declared.Answer.{Answer}
-use Rattle.terms.specs.declared.Answer.TheVariants.{Wrote}
+use Rattle.terms.specs.Answers.{Answer}
 use Rattle.terms.specs.Answers.{answer_number, answer_count}
 use Rattle.signature.specs.Polynomials.{clmul}
 use Rattle.signature.specs.Signatures.{number, window, degree, low_part}
@@ -36,7 +35,7 @@ pub data Pieces (minimum maximum n : ℕ) : (start : ℕ) → List ℕ → Type 
 
 -- what stands beside a number: beside 0 the count of what was written, beside a refusal 0
 pub record Values (answer : Answer) : Type 0 where
-  pub success : answer_number answer ≡ 0 → answer ≡ Wrote (answer_count answer)
+  pub success : answer_number answer ≡ 0 → answer ≡ Ok (answer_count answer)
   pub refusal : (answer_number answer ≡ 0 → ⊥) → answer_count answer ≡ 0
 
 -- a success writes the whole list and nothing but it

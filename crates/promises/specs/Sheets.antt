@@ -3,7 +3,7 @@ use Rattle.std.specs.Prelude.{ℕ, ◌+◌, ◌*◌, ◌≡◌, List, [], ◌∷
 use Rattle.laws.specs.Bytes.{Bytes}
 use Rattle.terms.specs.declared.Settings.{Settings}
 use Rattle.terms.specs.declared.Label.{Label}
-use Rattle.terms.specs.declared.Answer.{Answer}
+use Rattle.terms.specs.Answers.{Answer}
 use Rattle.terms.specs.Settings.{no_settings}
 use Rattle.terms.specs.Labels.{byte_of}
 use Rattle.terms.specs.Answers.{answer_count}
@@ -11,17 +11,17 @@ use Rattle.words.specs.Numbers.{numbers_of, number_at}
 use Rattle.sheet_format.specs.Forms.{cuts_form}
 use Rattle.sheet_format.specs.Sheets.{sheet_of}
 use Rattle.sheet_format.specs.Clean.{trailer_of, sheet_in, list_in, ReadsCleanly}
-use Rattle.sheet.specs.declared.Sheet.{Sheet}
+use Rattle.sheet.specs.Answers.{SheetAnswer}
 use Rattle.sheet.specs.Answers.{sheet_label, sheet_settings, sheet_count}
 
 -- beside a refusal of reading every value is 0
-pub record NothingRead (answer : Sheet) : Type 0 where
+pub record NothingRead (answer : SheetAnswer) : Type 0 where
   pub label : sheet_label answer ≡ 0
   pub settings : sheet_settings answer ≡ no_settings
   pub count : sheet_count answer ≡ 0
 
 -- a success gives the label asked for and the trailer's settings and count, writes the list, and leaves the entries past it
-pub record ReadOut (bytes : List ℕ) (asked : Label) (answer : Sheet) (list after : List ℕ) : Type 0 where
+pub record ReadOut (bytes : List ℕ) (asked : Label) (answer : SheetAnswer) (list after : List ℕ) : Type 0 where
   pub label : sheet_label answer ≡ byte_of asked
   pub settings : sheet_settings answer ≡ (trailer_of bytes).settings
   pub count : sheet_count answer ≡ (trailer_of bytes).count

@@ -1,4 +1,5 @@
 -- Writing a sheet: what the rows that passed say of the settings, the list and the room.
+use Rattle.std.specs.Prelude.{Ok}
 use mathlib.Core.Path.{◌≡◌}
 use mathlib.Core.Bool.{true}
 use mathlib.Core.List.{List}
@@ -7,7 +8,6 @@ use lib.ListN.{length}
 use borrow.Author.Tests.{ltb-false, not-false}
 use Rattle.terms.specs.declared.Settings.{Settings}
 use Rattle.terms.specs.declared.Refusal.TheVariants.{SettingsOutOfRange, ListNotWellFormed, TooManyCuts, RoomTooShort}
-use Rattle.terms.specs.declared.Verdict.TheVariants.{Fine}
 use Rattle.terms.specs.Settings.{in_range}
 use Rattle.terms.specs.Rows.{verdict}
 use Rattle.terms.proofs.Verdicts.{clear}
@@ -22,7 +22,7 @@ pub record Writable (settings : Settings) (list : List ℕ) (room : ℕ) : Type 
   pub few : length list ≤ most_cuts
   pub roomy : sheet_size (length list) ≤ room
 
-pub writable : (settings : Settings) (list : List ℕ) (room : ℕ) → verdict (write_sheet_rows settings list room) ≡ Fine → Writable settings list room
+pub writable : (settings : Settings) (list : List ℕ) (room : ℕ) → verdict (write_sheet_rows settings list room) ≡ Ok tt → Writable settings list room
 unfolding write_sheet_rows
 writable settings list room e =
     let r = clear SettingsOutOfRange _ _ e in

@@ -1,10 +1,9 @@
 -- Writing a sheet: document 01, "Numbers answered".
-use Rattle.std.specs.Prelude.{ℕ, ◌+◌, ◌*◌, not, List, [], ◌∷◌, ltb, length}
+use Rattle.std.specs.Prelude.{ℕ, ◌+◌, ◌*◌, not, List, [], ◌∷◌, ltb, length, Ok, Err}
 use Rattle.laws.specs.Over.{over}
 use Rattle.terms.specs.declared.Settings.{Settings}
 use Rattle.terms.specs.declared.Label.{Label}
-use Rattle.terms.specs.declared.Answer.{Answer}
-use Rattle.terms.specs.declared.Answer.TheVariants.{Wrote, Refused}
+use Rattle.terms.specs.Answers.{Answer}
 use Rattle.terms.specs.declared.Refusal.TheVariants.{SettingsOutOfRange, ListNotWellFormed, TooManyCuts, RoomTooShort}
 use Rattle.terms.specs.Settings.{in_range}
 use Rattle.terms.specs.Rows.{Row, row, verdict, ruled}
@@ -27,7 +26,7 @@ write_sheet_rows settings list room =
     ∷ []
 
 unfoldable pub write_sheet_answer : (settings : Settings) (list : List ℕ) (room : ℕ) → Answer
-write_sheet_answer settings list room = ruled (verdict (write_sheet_rows settings list room)) Refused (Wrote (sheet_size (length list)))
+write_sheet_answer settings list room = ruled (verdict (write_sheet_rows settings list room)) Err (Ok (sheet_size (length list)))
 
 unfoldable pub write_sheet_leaves : (settings : Settings) (label : Label) (list bytes : List ℕ) → List ℕ
 write_sheet_leaves settings label list bytes =

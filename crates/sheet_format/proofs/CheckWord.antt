@@ -1,8 +1,7 @@
 -- The check word of the form CUTS, by wrapping sums.
-use Rattle.std.proofs.Common.{◌≡◌, ℕ, suc, ◌+◌, ◌-◌, ◌*◌, ◌%◌, ◌^◌, ◌<◌, true, List, [], ◌∷◌, ◌++◌, length, take, sym, add-zero, add_assoc, add-one, arith, lit<, eqb-true}
+use Rattle.std.proofs.Common.{◌≡◌, ℕ, suc, ◌+◌, ◌-◌, ◌*◌, ◌%◌, ◌^◌, ◌<◌, true, List, [], ◌∷◌, ◌++◌, length, get_or, take, sym, take-suc, add-zero, add_assoc, add-one, arith, lit<, eqb-true}
 use native.Mathlib.Nat.{mod-add-mod}
-use Rattle.words.specs.Numbers.{numbers, numbers_of, number_at}
-use Rattle.words.proofs.BigEndian.{numbers_more}
+use Rattle.words.specs.Numbers.{numbers_of, number_at}
 use Rattle.words.proofs.Back.{numbers_of_more}
 use Rattle.sheet_format.specs.Forms.{Form, total, check_word, cuts_form}
 use Rattle.sheet_format.specs.Sheets.{checked}
@@ -13,9 +12,9 @@ total-append [] m = omega arith
 total-append (x ∷ l) m = rw (total-append l m) (sym (add_assoc x (total l) (total m)))
 
 -- one word more
-pub sum_more : (i : ℕ) (bytes : List ℕ) → (total (numbers 4 i bytes) % 2 ^ 32 + number_at (4 * i) 4 bytes) % 2 ^ 32 ≡ total (numbers 4 (i + 1) bytes) % 2 ^ 32
+pub sum_more : (words : List ℕ) (i : ℕ) {word : ℕ} → i < length words → get_or words i 0 ≡ word → (total (take i words) % 2 ^ 32 + word) % 2 ^ 32 ≡ total (take (i + 1) words) % 2 ^ 32
 unfolding total
-sum_more i bytes = rw (add-one, numbers_more, total-append, mod-add-mod, add-zero)
+sum_more words i h e = rw (add-one, take-suc words i 0 h, total-append, e, mod-add-mod, add-zero)
 
 -- what a wrapping difference from 0 gives is the check word
 pub check_is : (r : ℕ) (words : List ℕ) → r < 2 ^ 32 → (r + total words % 2 ^ 32) % 2 ^ 32 ≡ 0 → r ≡ check_word words

@@ -1,5 +1,5 @@
 -- Bytes that read cleanly: every row that judges them passed, and what that says of them.
-use Rattle.std.proofs.Common.{◌≡◌, ℕ, ◌-◌, Bool, true, not, List, length, sym, refl, ap, ◌∙◌, arith, lit<}
+use Rattle.std.proofs.Common.{◌≡◌, ℕ, ◌+◌, ◌-◌, ◌*◌, Bool, true, not, List, length, sym, refl, ap, ◌∙◌, arith, lit<}
 use borrow.Author.Tests.{not-false}
 use Rattle.terms.specs.declared.Refusal.TheVariants.{NoSheet, TrailerWrong, CheckWordWrong, ListNotWellFormed}
 use Rattle.terms.proofs.Verdicts.{clear, top, past, judged_fine}
@@ -12,7 +12,7 @@ use Rattle.sheet_format.specs.Trailer.{trailer_right}
 use Rattle.sheet_format.specs.Sheets.{checked}
 use Rattle.sheet_format.specs.Clean.{trailer_of, sheet_in, body_in, list_in, has_trailer, has_list, clean_rows, ReadsCleanly}
 use Rattle.sheet_format.specs.Inner.{Placed}
-use Rattle.sheet_format.proofs.Lent.{right_facts, there, length_body}
+use Rattle.sheet_format.proofs.Lent.{right_facts, there, length_sheet_in, length_body}
 
 pub record Clean (form : Form) (bytes : List ℕ) : Type 0 where
   pub present : has_trailer form.mark bytes ≡ true
@@ -44,9 +44,14 @@ module _ (bytes : List ℕ) {t : Trailer} (e : t ≡ trailer_of bytes) where
   unfolding has_list list_in
   listed_by b w = w ∙ rw (b, e)
 
--- a clean sheet's list has as many entries as its trailer counts
-pub length_list : (form : Form) (bytes : List ℕ) → Clean form bytes → length (list_in bytes) ≡ (trailer_of bytes).count
-unfolding list_in
-length_list form bytes c =
-    let p = placed bytes refl form.mark c.present c.right in
-    length-numbers_of 8 (lit< tt) (trailer_of bytes).count (body_in bytes) (length_body bytes p ∙ (right_facts c.right).distance)
+-- a clean sheet has its trailer after its body, and as many entries as the trailer counts
+module _ (form : Form) (bytes : List ℕ) (c : Clean form bytes) where
+  stands : Placed (trailer_of bytes).distance bytes
+  stands = placed bytes refl form.mark c.present c.right
+
+  pub length_sheet : length (sheet_in bytes) ≡ 8 * (trailer_of bytes).count + 32
+  length_sheet = length_sheet_in bytes stands ∙ omega (arith, (right_facts c.right).distance)
+
+  pub length_list : length (list_in bytes) ≡ (trailer_of bytes).count
+  unfolding list_in
+  length_list = length-numbers_of 8 (lit< tt) (trailer_of bytes).count (body_in bytes) (length_body bytes stands ∙ (right_facts c.right).distance)

@@ -1,6 +1,6 @@
 -- A word of a sheet that reads cleanly, exchanged for another, is always found: a wrong count or distance no longer agree with each other,
 -- and any other word makes the sum of all words other than zero. This is of the form CUTS.
-use Rattle.std.proofs.Common.{◌≡◌, ℕ, zero, suc, ◌+◌, ◌-◌, ◌*◌, ◌%◌, ◌^◌, ◌<◌, eqb, List, [], ◌∷◌, ◌++◌, length, get_or, take, drop, set, sym, refl, ap, ◌∙◌, le_of_suc-le-suc, arith, lit<, length-append, length-drop, length-set, take-append-drop, get_or-drop, get_or-set_other, get_or-set_same, eqb-true}
+use Rattle.std.proofs.Common.{◌≡◌, ℕ, zero, suc, ◌+◌, ◌-◌, ◌*◌, ◌%◌, ◌^◌, ◌<◌, eqb, List, [], ◌∷◌, ◌++◌, length, get_or, take, drop, set, sym, ap, ◌∙◌, le_of_suc-le-suc, arith, lit<, length-append, length-drop, length-set, take-append-drop, get_or-drop, get_or-set_other, get_or-set_same, eqb-true}
 use lib.Seq.{drop-append-add}
 use borrow.Author.Tests.{eqb-false}
 use Rattle.laws.specs.Bytes.{Bytes}
@@ -15,8 +15,8 @@ use Rattle.sheet_format.specs.Sheets.{damaged}
 use Rattle.sheet_format.specs.Clean.{trailer_bytes, trailer_of, sheet_in, ReadsCleanly}
 use Rattle.sheet_format.proofs.CheckWord.{checked_adds}
 use Rattle.sheet_format.proofs.Parts.{sheet_at}
-use Rattle.sheet_format.proofs.Lent.{right_facts, length_sheet_in}
-use Rattle.sheet_format.proofs.Cleanly.{Clean, clean, placed}
+use Rattle.sheet_format.proofs.Lent.{right_facts}
+use Rattle.sheet_format.proofs.Cleanly.{Clean, clean, length_sheet}
 
 -- a word exchanged for another moves the sum by their difference
 total-set : (l : List ℕ) (k w : ℕ) → k < length l → total (set l k w) + get_or l k 0 ≡ total l + w
@@ -88,9 +88,7 @@ not_clean old before words count k word w inside fits a =
 
 module _ (bytes : List ℕ) (reads : ReadsCleanly cuts_form bytes) where
   long : length (sheet_in bytes) ≡ 4 * (2 * (trailer_of bytes).count + 8)
-  long =
-      let c = clean cuts_form bytes reads in
-      length_sheet_in bytes (placed bytes refl cuts_form.mark c.present c.right) ∙ omega (arith, (right_facts c.right).distance)
+  long = length_sheet cuts_form bytes (clean cuts_form bytes reads) ∙ omega arith
 
   -- all 32-bit words of body and trailer add to zero modulo 2^32
   pub words_add : total (numbers_of 4 (sheet_in bytes)) % 2 ^ 32 ≡ 0

@@ -1,11 +1,11 @@
--- A right trailer's facts by name, and the parts of a sheet as code lends them: they are those of the definition.
-use Rattle.std.proofs.Common.{◌≡◌, ℕ, ◌+◌, ◌-◌, ◌*◌, ◌≤◌, Bool, true, leb, List, length, take, drop, ◌∙◌, arith, length-drop, length-take-le, eqb-true, le-leb, leb-true}
+-- A right trailer's facts by name, and the sheet and its body as code lends them: they are those of the definition, and so long.
+use Rattle.std.proofs.Common.{◌≡◌, ℕ, ◌+◌, ◌-◌, ◌*◌, ◌≤◌, true, leb, List, length, take, drop, arith, length-drop, length-take-le, eqb-true, leb-true}
 use Rattle.laws.proofs.Slices.{rest_from}
 use Rattle.laws.proofs.Cases.{both_true}
 use Rattle.terms.specs.Settings.{in_range}
 use Rattle.words.specs.Runs.{same}
 use Rattle.sheet_format.specs.declared.trailer.Trailer.{Trailer}
-use Rattle.sheet_format.specs.Trailer.{most_cuts, is_label, trailer_in, trailer_right}
+use Rattle.sheet_format.specs.Trailer.{most_cuts, is_label, trailer_right}
 use Rattle.sheet_format.specs.Clean.{trailer_bytes, trailer_of, sheet_in, body_in, has_trailer}
 use Rattle.sheet_format.specs.Inner.{Placed}
 
@@ -26,39 +26,20 @@ right_facts {t = t} ok =
     let f = both_true e.1 in
     record { six = eqb-true _ _ c.0; seven = eqb-true _ _ d.0; distance = eqb-true _ _ f.0; body = leb-true _ _ f.1 }
 
-module _ (bytes : List ℕ) where
-  module _ (mark : List ℕ) where
-    pub marked_is : {r : Bool} → 32 ≤ length bytes → r ≡ same mark (take (length bytes - 32 + 4 - (length bytes - 32)) (drop (length bytes - 32) bytes))
-        → r ≡ has_trailer mark bytes
-    unfolding has_trailer trailer_bytes
-    marked_is h e =
-        let four : length bytes - 32 + 4 - (length bytes - 32) ≡ 4 = omega arith in
-        rw (le-leb 32 (length bytes) h) (rw four at e)
+pub there : (bytes mark : List ℕ) → has_trailer mark bytes ≡ true → (32 ≤ length bytes) × (same mark (take 4 (trailer_bytes bytes)) ≡ true)
+unfolding has_trailer
+there bytes mark present = let halves = both_true present in (leb-true _ _ halves.0, halves.1)
 
-    pub there : has_trailer mark bytes ≡ true → (32 ≤ length bytes) × (same mark (take 4 (trailer_bytes bytes)) ≡ true)
-    unfolding has_trailer
-    there present = let halves = both_true present in (leb-true _ _ halves.0, halves.1)
+-- the sheet and its body, where the trailer tells of as many bytes as there are
+module _ (bytes : List ℕ) {distance : ℕ} (p : Placed distance bytes) where
+  pub sheet_lent : take (length bytes - (length bytes - 32 - distance)) (drop (length bytes - 32 - distance) bytes) ≡ sheet_in bytes
+  unfolding sheet_in
+  sheet_lent = rw p.told (rest_from bytes (length bytes - 32 - (trailer_of bytes).distance))
 
-  -- the last 32 bytes, as they are lent
-  pub trailer_lent : {t : Trailer} → t ≡ trailer_in (take (length bytes - (length bytes - 32)) (drop (length bytes - 32) bytes)) → t ≡ trailer_of bytes
-  unfolding trailer_of trailer_bytes
-  trailer_lent e = e ∙ rw (rest_from bytes (length bytes - 32))
+  pub length_sheet_in : length (sheet_in bytes) ≡ distance + 32
+  unfolding sheet_in
+  length_sheet_in = rw (← p.told, length-drop) (omega (arith, p.fits))
 
-  module _ {distance : ℕ} (p : Placed distance bytes) where
-    pub sheet_lent : take (length bytes - (length bytes - 32 - distance)) (drop (length bytes - 32 - distance) bytes) ≡ sheet_in bytes
-    unfolding sheet_in
-    sheet_lent = rw p.told (rest_from bytes (length bytes - 32 - (trailer_of bytes).distance))
-
-    pub length_sheet_in : length (sheet_in bytes) ≡ distance + 32
-    unfolding sheet_in
-    length_sheet_in = rw (← p.told, length-drop) (omega (arith, p.fits))
-
-    pub body_lent : take (length bytes - 32 - (length bytes - 32 - distance)) (drop (length bytes - 32 - distance) bytes) ≡ body_in bytes
-    unfolding body_in sheet_in
-    body_lent =
-        let whole : length bytes - 32 - (length bytes - 32 - distance) ≡ distance = omega (arith, p.fits) in
-        rw (whole, p.told)
-
-    pub length_body : length (body_in bytes) ≡ distance
-    unfolding body_in
-    length_body = rw (← p.told) (length-take-le distance (sheet_in bytes) (omega (arith, length_sheet_in)))
+  pub length_body : length (body_in bytes) ≡ distance
+  unfolding body_in
+  length_body = rw (← p.told) (length-take-le distance (sheet_in bytes) (omega (arith, length_sheet_in)))

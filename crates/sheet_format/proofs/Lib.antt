@@ -2,11 +2,11 @@
 pub mod CheckWord
 -- what the laws ask of a form
 pub mod Forms
--- offsets judged one by one where they stand
+-- how many offsets a body has
 pub mod Offsets
--- a sheet written part by part
+-- where the parts of a sheet stand
 pub mod Parts
--- the parts of a sheet as code lends them
+-- a right trailer's facts, and the parts that code lends
 pub mod Lent
 -- what reads cleanly, by names
 pub mod Cleanly

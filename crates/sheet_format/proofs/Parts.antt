@@ -1,13 +1,12 @@
--- A sheet as it is laid out: the trailer's fields, then the whole, each written part by part.
-use Rattle.std.proofs.Common.{◌≡◌, ℕ, ◌+◌, ◌-◌, ◌*◌, ◌≤◌, List, [], ◌∷◌, ◌++◌, length, take, drop, sym, refl, ◌∙◌, append_assoc, arith, length-append, take-append-drop, length-take-le, drop-drop}
-use lib.Seq.{drop-append_seam, drop-append-add}
-use Rattle.laws.specs.Over.{over, over_from}
-use Rattle.laws.proofs.Writing.{take_over, over_from_zero, over_from_over, over_from_join}
+-- A sheet as it is laid out: how long its fields are, where its parts stand, and the whole from its parts.
+use Rattle.std.proofs.Common.{◌≡◌, ℕ, ◌+◌, ◌-◌, ◌*◌, ◌≤◌, List, ◌++◌, length, take, drop, refl, ◌∙◌, append_assoc, arith, length-append, length-drop, length-take-le, drop-drop}
+use lib.Seq.{drop-append_seam, drop-append-add, take-take}
+use Rattle.laws.specs.Over.{over}
+use Rattle.laws.proofs.Writing.{take_over}
 use Rattle.terms.specs.declared.Settings.{Settings}
 use Rattle.terms.specs.declared.Label.{Label}
-use Rattle.terms.specs.Labels.{byte_of}
 use Rattle.words.specs.Numbers.{big_endian, written, numbers_of}
-use Rattle.words.proofs.BigEndian.{length_written}
+use Rattle.words.proofs.BigEndian.{length-big_endian, length_written}
 use Rattle.sheet_format.specs.declared.trailer.Trailer.{Trailer}
 use Rattle.sheet_format.specs.Forms.{check_word, cuts_form}
 use Rattle.sheet_format.specs.Trailer.{fields, trailer_for}
@@ -35,55 +34,36 @@ sheet_at before sheet d size e =
     let place : length (before ++ sheet) - 32 - d ≡ length before = rw length-append (omega arith) in
     rw (e, place) (drop-append_seam before sheet)
 
--- what stands already, and what is written over it again
-over_own : (k : ℕ) (b : List ℕ) → k ≤ length b → over (take k b) b ≡ b
-unfolding over
-over_own k b h = rw (length-take-le k b h) (take-append-drop k b)
+module _ (settings : Settings) (label : Label) (count : ℕ) (b : List ℕ) (room : 8 * count + 32 ≤ length b) where
+  length_seal : length (sealed cuts_form settings label count (take (8 * count) b)) ≡ 8 * count + 32
+  unfolding sealed with_check
+  length_seal =
+      let body : length (take (8 * count) b) ≡ 8 * count = length-take-le (8 * count) b (omega (arith, room)) in
+      let front = length_front cuts_form.mark (take (8 * count) b) (trailer_for settings label count) refl in
+      rw (length-append, front, body, length-big_endian) (omega arith)
 
+  -- fields and check word after a body: together they seal it, and what stands past them stays
+  pub body_sealed : {body rest written check : List ℕ} → body ≡ take (8 * count) (take (8 * count + 28) b) → rest ≡ drop (8 * count + 28) b
+      → written ≡ fields cuts_form.mark (trailer_for settings label count) → check ≡ big_endian (length (take 4 rest)) (check_word (numbers_of 4 (body ++ written)))
+      → (body ++ written) ++ (check ++ drop 4 rest) ≡ over (sealed cuts_form settings label count (take (8 * count) b)) b
+  unfolding over sealed with_check
+  body_sealed {body} {rest} e₁ e₂ e₃ e₄ =
+      let four : length (take 4 rest) ≡ 4 = length-take-le 4 rest (rw (e₂, length-drop) (omega (arith, room))) in
+      let own : body ≡ take (8 * count) b = e₁ ∙ take-take (8 * count) (8 * count + 28) b (omega arith) in
+      let past : 8 * count + 28 + 4 ≡ 8 * count + 32 = omega arith in
+      rw (e₄, four, own, e₂, e₃, drop-drop, past, length_seal, append_assoc (take (8 * count) b ++ fields cuts_form.mark (trailer_for settings label count))) refl
+
+-- what stands already, written over again
 over_again : (l m b : List ℕ) → over (l ++ m) (over l b) ≡ over (l ++ m) b
 unfolding over
 over_again l m b = rw (length-append, drop-append-add l (drop (length l) b) (length m), drop-drop)
 
-module _ (settings : Settings) (label : Label) (count : ℕ) where
-  -- mark, then label and K, then the numbers: together the trailer's fields
-  pub fields_written : (mark b : List ℕ) {byte : ℕ} {b₁ b₂ b₃ : List ℕ} → length mark ≡ 4 → 8 * count ≤ length b → byte ≡ byte_of label
-      → b₁ ≡ over_from (8 * count) mark b
-      → b₂ ≡ over_from (8 * count + 4) (byte ∷ settings.bits ∷ 0 ∷ 0 ∷ []) b₁
-      → b₃ ≡ over_from (8 * count + 8) (written 4 (settings.target ∷ settings.minimum ∷ settings.maximum ∷ count ∷ 8 * count ∷ [])) b₂
-      → b₃ ≡ over_from (8 * count) (fields mark (trailer_for settings label count)) b
-  unfolding fields trailer_for
-  fields_written mark b {byte} {b₁} {b₂} {b₃} four room e e₁ e₂ e₃ =
-      let signs = byte_of label ∷ settings.bits ∷ 0 ∷ 0 ∷ [] in
-      let numbers = written 4 (settings.target ∷ settings.minimum ∷ settings.maximum ∷ count ∷ 8 * count ∷ []) in
-      let first : 8 * count + 4 ≡ 8 * count + length mark = omega arith in
-      let second : 8 * count + 8 ≡ 8 * count + length (mark ++ signs) = rw length-append (omega arith) in
-      let signed : b₂ ≡ over_from (8 * count) (mark ++ signs) b = rw (e₂, e₁, e, first) (over_from_join (8 * count) mark signs b room) in
-      rw (e₃, signed, second, ← (append_assoc mark signs numbers)) (over_from_join (8 * count) (mark ++ signs) numbers b room)
-
-  -- fields and check word after a body: together they seal it
-  pub body_sealed : (b : List ℕ) {check : ℕ} {b₁ b₂ : List ℕ} → 8 * count ≤ length b
-      → b₁ ≡ over_from (8 * count) (fields cuts_form.mark (trailer_for settings label count)) b
-      → check ≡ check_word (numbers_of 4 (take (8 * count + 28) b₁))
-      → b₂ ≡ over_from (8 * count + 28) (big_endian 4 check) b₁
-      → b₂ ≡ over (sealed cuts_form settings label count (take (8 * count) b)) b
-  unfolding sealed with_check
-  body_sealed b {check} {b₁} {b₂} room e₁ e e₂ =
-      let t = trailer_for settings label count in
-      let body = take (8 * count) b in
-      let front = body ++ fields cuts_form.mark t in
-      let size : length body ≡ 8 * count = length-take-le (8 * count) b room in
-      let whole : 8 * count + 28 ≡ length front = sym (length_front cuts_form.mark body t refl ∙ rw size) in
-      let fronted : b₁ ≡ over front b = e₁ ∙ rw (size, over_own (8 * count) b room) at (over_from_over body (fields cuts_form.mark t) b) in
-      let found : take (8 * count + 28) b₁ ≡ front = rw (fronted, whole) (take_over front b) in
-      rw (e₂, e, found, fronted, whole) (over_from_over front (big_endian 4 (check_word (numbers_of 4 front))) b)
-
 -- a body and its seal: together the sheet
-pub sheet_written : (settings : Settings) (label : Label) (list b : List ℕ) {b₁ b₂ : List ℕ} → b₁ ≡ over_from 0 (written 8 list) b
+pub sheet_written : (settings : Settings) (label : Label) (list b : List ℕ) {b₁ b₂ : List ℕ} → b₁ ≡ over (written 8 list) b
     → b₂ ≡ over (sealed cuts_form settings label (length list) (take (8 * length list) b₁)) b₁ → b₂ ≡ over (sheet_of cuts_form settings label list) b
 unfolding sheet_of sealed with_check
-sheet_written settings label list b {b₁} {b₂} e₁ e₂ =
-    let body : b₁ ≡ over (written 8 list) b = e₁ ∙ over_from_zero (written 8 list) b in
+sheet_written settings label list b {b₁} {b₂} body e =
     let found : take (8 * length list) b₁ ≡ written 8 list = rw (body, ← (length_written 8 list)) (take_over (written 8 list) b) in
     let t = trailer_for settings label (length list) in
     let check = big_endian 4 (check_word (numbers_of 4 (written 8 list ++ fields cuts_form.mark t))) in
-    rw (e₂, found, body, append_assoc (written 8 list) (fields cuts_form.mark t) check) (over_again (written 8 list) (fields cuts_form.mark t ++ check) b)
+    rw (e, found, body, append_assoc (written 8 list) (fields cuts_form.mark t) check) (over_again (written 8 list) (fields cuts_form.mark t ++ check) b)

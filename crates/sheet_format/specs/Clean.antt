@@ -1,7 +1,6 @@
 -- The sheet at the end of bytes, and what is clean in it: document 01, "The cut sheet" and "Numbers answered".
-use Rattle.std.specs.Prelude.{◌≡◌, ℕ, ◌-◌, Bool, not, ◌&&◌, List, [], ◌∷◌, length, take, drop, nat_le}
+use Rattle.std.specs.Prelude.{◌≡◌, ℕ, ◌-◌, Bool, not, ◌&&◌, List, [], ◌∷◌, length, take, drop, nat_le, Ok}
 use Rattle.terms.specs.declared.Refusal.TheVariants.{NoSheet, TrailerWrong, CheckWordWrong, ListNotWellFormed}
-use Rattle.terms.specs.declared.Verdict.TheVariants.{Fine}
 use Rattle.terms.specs.Rows.{Row, row, verdict}
 use Rattle.lists.specs.WellFormed.{well_formed}
 use Rattle.words.specs.Numbers.{numbers_of}
@@ -50,4 +49,4 @@ clean_rows form bytes =
 
 -- bytes read cleanly where none of these rows holds
 abbrev pub ReadsCleanly : (form : Form) (bytes : List ℕ) → Type 0
-ReadsCleanly form bytes = verdict (clean_rows form bytes) ≡ Fine
+ReadsCleanly form bytes = verdict (clean_rows form bytes) ≡ Ok tt

@@ -6,10 +6,13 @@ ghost use Rattle.words.specs.Numbers.{numbers_of};
 ghost use Rattle.sheet_format.specs.Clean.{sheet_in, body_in};
 ghost use Rattle.sheet_format.specs.Inner.{Placed};
 
-use words::numbers::number_at;
+use lists::step_fits;
+use terms::{LONGEST, Settings};
+use words::numbers::number;
 
-// The sheet at the end of bytes. It is inner: the caller gives its trailer's distance and sees that the body fits.
-pub fn sheet_in<'a>(distance: u64, bytes: &'a [u8]) -> &'a [u8]
+// The sheet at the end of bytes. It is inner: the caller gives its trailer's distance and sees that the body fits. It takes a distance and no
+// slice, since where the slice begins is what it tells.
+pub fn sheet_in(distance: u64, bytes: &[u8]) -> &[u8]
     requires { Placed distance bytes.now }
     ensures { result.now ≡ sheet_in bytes.now }
 {
@@ -18,41 +21,39 @@ pub fn sheet_in<'a>(distance: u64, bytes: &'a [u8]) -> &'a [u8]
 }
 
 // The body of that sheet. It is inner in the same way.
-pub fn body_in<'a>(distance: u64, bytes: &'a [u8]) -> &'a [u8]
+pub fn body_in(distance: u64, bytes: &[u8]) -> &[u8]
     requires { Placed distance bytes.now }
     ensures { result.now ≡ body_in bytes.now }
 {
-    let end = bytes.len() - 32;
-    let start = end - distance as usize;
-    &bytes[start..end]
+    let sheet = sheet_in(distance, bytes);
+    &sheet[..distance as usize]
 }
 
-// Whether the offsets of a body are a well-formed list.
-pub fn is_well_formed(minimum: u64, maximum: u64, body: &[u8]) -> bool
-    ensures { result ≡ well_formed minimum maximum (numbers_of 8 body.now) }
+// Whether the offsets of a body are a well-formed list. It stands beside lists::well_formed, which walks a slice, and shares its step: one
+// function over any iterator would be no plainer, since it would ask that the iterator ends and that its count fits, speak of every run
+// of it in its clause, and owe at each call what the chain yields.
+pub fn is_well_formed(settings: Settings, body: &[u8]) -> bool
+    ensures { result ≡ well_formed settings.minimum settings.maximum (numbers_of 8 body.now) }
 {
     let count = body.len() / 8;
-    let mut before: u64 = 0;
-    let mut i = 0;
-    while i < count {
-        let entry = number_at(8, 8 * i, body);
-        if !lists::step_fits(minimum, maximum, i + 1 == count, before, entry) {
+    let mut before = 0;
+    for (i, place) in body.chunks_exact(8).enumerate() {
+        let entry = number(place);
+        if !step_fits(settings, i + 1 == count, before, entry) {
             return false;
         }
         before = entry;
-        i += 1;
     }
-    before <= terms::LONGEST
+    before <= LONGEST
 }
 
-// Writes the offsets of a body to a list. It is inner: the caller sees that there is room.
+// Writes the offsets of a body to a list. It is inner: the caller sees that there is room. It writes by places, since a proof knows
+// nothing of what was written through list.iter_mut().zip(..).
 pub fn take_offsets(body: &[u8], list: &mut [u64])
     requires { length body.now / 8 ≤ length list.old }
     ensures { list.new ≡ over (numbers_of 8 body.now) list.old }
 {
-    let mut i = 0;
-    while i < body.len() / 8 {
-        list[i] = number_at(8, 8 * i, body);
-        i += 1;
+    for (i, place) in body.chunks_exact(8).enumerate() {
+        list[i] = number(place);
     }
 }

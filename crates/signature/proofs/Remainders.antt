@@ -11,8 +11,9 @@ use lib.Arith.{bin_ind, half_le, digits_lt}
 use lib.Dec.{lit<}
 use lib.Pow.{pow_pos, split, pow-add, high, low as low_part}
 use lib.Bits.{bit_xor, xor_lt, xor_shr, xor_mod, xor_comm, xor_self, xor_zero_r, xor_block, xor_shifted, block_half, block_odd}
+use Rattle.std.specs.Int.Bits.{xor_assoc}
 use Rattle.signature.specs.Polynomials.{fold_digits, clmul, divide, rem}
-use Rattle.signature.proofs.Xor.{by_digit, digit_lt, xor_assoc, xor_left_comm, xor_cancel, xor_swap, xor_shl, digit_times}
+use Rattle.signature.proofs.Xor.{by_digit, digit_lt, xor_left_comm, xor_cancel, xor_swap, xor_shl, digit_times}
 
 -- a fold over the digits, opened at the lowest one
 module _ (f : ℕ → ℕ → ℕ) where
@@ -67,7 +68,7 @@ divide_halves d l n = ap (λ (x : ℕ). bit_xor (x / 2 ^ d * l) (x % 2 ^ d)) (di
 
 -- the quotient's part leaves the sum of a multiple and its remainder
 gather : (p q a m : ℕ) → bit_xor a (bit_xor p m) ≡ bit_xor (bit_xor (bit_xor p q) a) (bit_xor q m)
-gather p q a m = simp (xor_assoc, xor_comm, xor_left_comm, xor_cancel)
+gather p q a m = simp (xor_assoc, xor_left_comm, xor_cancel)
 
 module _ (d l : ℕ) (low : l < 2 ^ d) where
   top_lt : (r c : ℕ) → r < 2 ^ d → c < 2 → (r * 2 + c) / 2 ^ d < 2

@@ -83,16 +83,15 @@ grown_by_shifts e l w low fits s b x hb is_x =
     ∙ sym (rem_by_top e 8 l low s b hb)
     ∙ sym (grown_reduced (e + 8) l low (omega arith) s b hb)
 
--- of the bytes from offset q on, those before the i-th give s: with the i-th they give r
-pub push_grows : (log : List ℕ) → Bytes log → (q i : ℕ) → q + i < length log → (s r : ℕ) → s ≡ signature_of (take i (drop q log))
-    → r ≡ grown degree low_part s (get_or log (q + i) 0) → r ≡ signature_of (take (i + 1) (drop q log))
+-- of a run of bytes, those before the i-th give s: with the i-th they give r
+pub push_grows : (bs : List ℕ) → Bytes bs → (i : ℕ) → i < length bs → (s r : ℕ) → s ≡ signature_of (take i bs)
+    → r ≡ grown degree low_part s (get_or bs i 0) → r ≡ signature_of (take (i + 1) bs)
 unfolding signature_of
-push_grows log bytes q i h s r is-s is-r =
-    let long : i < length (drop q log) = simp length-drop (omega arith) in
+push_grows bs bytes i h s r is-s is-r =
     is-r
-    ∙ ap₂ (λ (x e : ℕ). grown degree low_part x e) is-s (sym (get_or-drop q log i 0))
-    ∙ sym (signature_snoc degree low_part (lit< tt) (lit≤ tt) (take i (drop q log)) (get_or (drop q log) i 0) (bytes_drop q log bytes i))
-    ∙ ap (signature degree low_part) (sym (ap (λ (k : ℕ). take k (drop q log)) (add-one i) ∙ take-suc (drop q log) i 0 long))
+    ∙ ap (λ (x : ℕ). grown degree low_part x (get_or bs i 0)) is-s
+    ∙ sym (signature_snoc degree low_part (lit< tt) (lit≤ tt) (take i bs) (get_or bs i 0) (bytes i))
+    ∙ ap (signature degree low_part) (sym (ap (λ (k : ℕ). take k bs) (add-one i) ∙ take-suc bs i 0 h))
 
 -- rolled over the bytes log[q] and log[q + 48], the signature of the window at q is that of the window at q + 1
 pub roll_slides : (log : List ℕ) → Bytes log → (q : ℕ) → q + span < length log → (s r : ℕ) → s ≡ signature_of (window log q)

@@ -1,11 +1,11 @@
 -- The sum without carries: laws of the exclusive or that the remainder's laws rest on.
-use mathlib.Core.Path.{◌≡◌, refl, sym, ap, ap₂, ◌∙◌}
-use Prim.Native.Nat.{ℕ, zero, suc, ◌+◌, ◌*◌, ◌/◌, ◌%◌, ◌^◌, ◌<◌}
+use mathlib.Core.Path.{◌≡◌, sym, ap, ap₂, ◌∙◌}
+use Prim.Native.Nat.{ℕ, zero, suc, ◌*◌, ◌%◌, ◌^◌, ◌<◌}
 use native.Mathlib.Nat.{add-zero, mod-lt, le_of_suc-le-suc, not-suc-le-zero, zero-mul}
-use lib.Arith.{bin_ind}
 use lib.Dec.{lit<}
-use lib.Pow.{split, pow_pos}
-use lib.Bits.{bit_xor, xor_shr, xor_mod, xor_comm, xor_self, xor_zero_r, xor_block}
+use lib.Pow.{pow_pos}
+use lib.Bits.{bit_xor, xor_comm, xor_self, xor_zero_r, xor_block}
+use Rattle.std.specs.Int.Bits.{xor_assoc}
 
 -- a digit is 0 or 1
 pub by_digit {ℓ} : (P : ℕ → Type ℓ) → P 0 → P 1 → (x : ℕ) → x < 2 → P x
@@ -15,24 +15,6 @@ by_digit P at-0 at_1 (suc (suc x)) h = absurd (not-suc-le-zero (le_of_suc-le-suc
 
 pub digit_lt : (n : ℕ) → n % 2 < 2
 digit_lt n = mod-lt n (lit< tt)
-
-xor_parts : (a b : ℕ) → bit_xor a b ≡ bit_xor (a / 2) (b / 2) * 2 + bit_xor (a % 2) (b % 2)
-xor_parts a b = sym (split (bit_xor a b) 1) ∙ ap₂ (λ (x y : ℕ). x * 2 + y) (xor_shr a b 1) (xor_mod a b 1)
-
-digits_assoc : (x y z : ℕ) → x < 2 → y < 2 → z < 2 → bit_xor (bit_xor x y) z ≡ bit_xor x (bit_xor y z)
-digits_assoc x y z hx hy hz =
-    by_digit (λ x. bit_xor (bit_xor x y) z ≡ bit_xor x (bit_xor y z)) refl
-    (by_digit (λ y. bit_xor (bit_xor 1 y) z ≡ bit_xor 1 (bit_xor y z)) refl
-    (by_digit (λ z. bit_xor (bit_xor 1 1) z ≡ bit_xor 1 (bit_xor 1 z)) refl refl z hz) y hy) x hx
-
-pub xor_assoc : (a b c : ℕ) → bit_xor (bit_xor a b) c ≡ bit_xor a (bit_xor b c)
-xor_assoc =
-    bin_ind (λ a. (b c : ℕ) → bit_xor (bit_xor a b) c ≡ bit_xor a (bit_xor b c)) (λ b c. refl) λ a ih b c.
-    xor_parts (bit_xor a b) c
-    ∙ ap₂ (λ (x y : ℕ). bit_xor x (c / 2) * 2 + bit_xor y (c % 2)) (xor_shr a b 1) (xor_mod a b 1)
-    ∙ ap₂ (λ (x y : ℕ). x * 2 + y) (ih (b / 2) (c / 2)) (digits_assoc (a % 2) (b % 2) (c % 2) (digit_lt a) (digit_lt b) (digit_lt c))
-    ∙ ap₂ (λ (x y : ℕ). bit_xor (a / 2) x * 2 + bit_xor (a % 2) y) (sym (xor_shr b c 1)) (sym (xor_mod b c 1))
-    ∙ sym (xor_parts a (bit_xor b c))
 
 pub xor_left_comm : (a b c : ℕ) → bit_xor a (bit_xor b c) ≡ bit_xor b (bit_xor a c)
 xor_left_comm a b c = sym (xor_assoc a b c) ∙ ap (λ (x : ℕ). bit_xor x c) (xor_comm a b) ∙ xor_assoc b a c

@@ -1,5 +1,5 @@
 -- The signature of a run of bytes, and how it rolls: document 01, "Signature and marks".
-use Rattle.std.specs.Prelude.{ℕ, ◌*◌, ◌^◌, List, [], ◌∷◌, take, drop}
+use Rattle.std.specs.Prelude.{ℕ, ◌*◌, ◌^◌, List, take, drop}
 use Rattle.std.specs.Int.Bits.{bit_xor}
 unfoldable pub use Rattle.laws.specs.Bytes.{number}
 use Rattle.laws.specs.Tables.{tabulate}
@@ -42,7 +42,3 @@ leaving_table = tabulate (λ b. rem degree low_part (b * 2 ^ (8 * span))) 0 256
 -- for each byte, that byte times x^31 reduced: what the shift pushes out
 unfoldable pub pushed_table : List ℕ
 pushed_table = tabulate (λ b. rem degree low_part (b * 2 ^ degree)) 0 256
-
--- the two as they are lent: what leaves, and what is pushed out
-unfoldable pub signature_tables : List (List ℕ)
-signature_tables = leaving_table ∷ pushed_table ∷ []

@@ -1,9 +1,7 @@
 // The entries of the signature's two tables.
-ghost use Rattle.std.specs.Prelude.{◌≡◌};
-ghost use Rattle.signature.specs.Signatures.{leaving_table, pushed_table};
 
 // For each byte, that byte times x^384 reduced.
-const LEAVING: [u32; 256] = [
+pub const LEAVING: [u32; 256] = [
     0, 17961248, 35922496, 53883744, 71844992, 89806240, 107767488, 125728736, 143689984,
     159553568, 179612480, 195476064, 215534976, 231398560, 251457472, 267321056, 287379968,
     271778592, 319107136, 303505760, 359224960, 343623584, 390952128, 375350752, 431069952,
@@ -39,7 +37,7 @@ const LEAVING: [u32; 256] = [
 ];
 
 // For each byte, that byte times x^31 reduced.
-const PUSHED: [u32; 256] = [
+pub const PUSHED: [u32; 256] = [
     0, 9, 18, 27, 36, 45, 54, 63, 72, 65, 90, 83, 108, 101, 126, 119, 144, 153, 130, 139, 180, 189,
     166, 175, 216, 209, 202, 195, 252, 245, 238, 231, 288, 297, 306, 315, 260, 269, 278, 287, 360,
     353, 378, 371, 332, 325, 350, 343, 432, 441, 418, 427, 404, 413, 390, 399, 504, 497, 490, 483,
@@ -56,17 +54,3 @@ const PUSHED: [u32; 256] = [
     2006, 2015, 1960, 1953, 1978, 1971, 1932, 1925, 1950, 1943, 1904, 1913, 1890, 1899, 1876, 1885,
     1862, 1871, 1848, 1841, 1834, 1827, 1820, 1813, 1806, 1799,
 ];
-
-// What each leaving byte has added to the signature once a byte more has entered.
-pub fn leaving() -> [u32; 256]
-    ensures { result ≡ leaving_table }
-{
-    LEAVING
-}
-
-// What each byte that the shift pushes out comes back as.
-pub fn pushed() -> [u32; 256]
-    ensures { result ≡ pushed_table }
-{
-    PUSHED
-}

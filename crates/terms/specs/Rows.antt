@@ -1,8 +1,6 @@
 -- A call's rows of the table of numbers, in its order: the first that holds refuses. Document 01, "Numbers answered".
-use Rattle.std.specs.Prelude.{ℕ, ◌≡◌, Bool, true, false, List, [], ◌∷◌, eqb}
+use Rattle.std.specs.Prelude.{ℕ, ◌≡◌, Bool, true, false, List, [], ◌∷◌, eqb, Result, Ok, Err}
 use Rattle.terms.specs.declared.Refusal.{Refusal}
-use Rattle.terms.specs.declared.Verdict.{Verdict}
-use Rattle.terms.specs.declared.Verdict.TheVariants.{Fine, Wrong}
 use Rattle.terms.specs.Refusals.{number_of}
 use Rattle.terms.specs.Answers.{unless}
 
@@ -14,18 +12,22 @@ pub record Row : Type 0 where
 abbrev pub row : Refusal → Bool → Row
 row why holds = record { why = why; holds = holds }
 
+-- what judging comes to: fine, or refused by one row
+abbrev pub Verdict : Type 0
+Verdict = Result (Unit {0}) Refusal
+
 abbrev pub first : Bool → Refusal → Verdict → Verdict
-first true why later = Wrong why
+first true why later = Err why
 first false why later = later
 
 unfoldable pub verdict : List Row → Verdict
-verdict [] = Fine
+verdict [] = Ok tt
 verdict (r ∷ rows) = first r.holds r.why (verdict rows)
 
 -- what a call makes of its verdict: the same for its answer, its number and what it leaves
 abbrev pub ruled {ℓ} : {A : Type ℓ} → Verdict → (Refusal → A) → A → A
-ruled Fine refused fine = fine
-ruled (Wrong why) refused fine = refused why
+ruled (Ok tt) refused fine = fine
+ruled (Err why) refused fine = refused why
 
 -- the number of the first row that holds; 0, a success, where none does
 abbrev pub first_row : List Row → ℕ

@@ -1,19 +1,27 @@
 // The terms that every call shares: the settings, the two labels and the numbers answered.
 #![tactic(auto)]
 
-ghost use Rattle.std.specs.Prelude.{◌≡◌};
+ghost use Rattle.std.specs.Prelude.{◌≡◌, true, false, IfOk, IfErr};
+ghost use Rattle.terms.specs.declared.Refusal.TheVariants.{SettingsOutOfRange};
 ghost use Rattle.terms.specs.Settings.{in_range, no_settings};
 ghost use Rattle.terms.specs.Refusals.{number_of};
 ghost use Rattle.terms.specs.Labels.{byte_of};
 
 // How a log is cut: K pattern bits, their target, and the least and the greatest length of a piece.
 #[repr(C)]
-#[derive(Clone, Copy)]
+#[derive(Clone, Copy, Debug, PartialEq, Eq)]
 pub struct Settings {
     pub bits: u32,
     pub target: u32,
     pub minimum: u64,
     pub maximum: u64,
+}
+
+// Settings that are in range: whoever is handed them has nothing to ask.
+#[derive(Clone, Copy)]
+pub struct Checked {
+    pub settings: Settings,
+    pub ghost ranged: { in_range settings ≡ true },
 }
 
 // The settings of the school.
@@ -25,47 +33,36 @@ pub const HOUSE: Settings = Settings {
 };
 
 // What a sheet says of its log: an exercise in the hall, or the training ship.
-#[derive(Clone, Copy)]
+#[derive(Clone, Copy, Debug, PartialEq, Eq)]
 pub enum Label {
     Practice,
     Live,
 }
 
 // Why a call is refused: a name for each row of the table of numbers.
-#[derive(Clone, Copy)]
+#[derive(Clone, Copy, Debug, PartialEq, Eq)]
 pub enum Refusal {
-    SettingsOutOfRange,
-    LogTooLong,
-    CarryNotInOrder,
-    CarryClosed,
-    RoomTooShort,
-    RecordTooLong,
-    NoSuchSegment,
-    BayNotDone,
-    BayMalformed,
-    ListNotWellFormed,
-    EditOutOfRange,
-    NoSheet,
-    CheckWordWrong,
-    TrailerWrong,
-    OtherLabel,
-    TooManyCuts,
-    ListFull,
+    SettingsOutOfRange = 1,
+    LogTooLong = 2,
+    CarryNotInOrder = 3,
+    CarryClosed = 4,
+    RoomTooShort = 5,
+    RecordTooLong = 6,
+    NoSuchSegment = 7,
+    BayNotDone = 8,
+    BayMalformed = 9,
+    ListNotWellFormed = 10,
+    EditOutOfRange = 11,
+    NoSheet = 12,
+    CheckWordWrong = 13,
+    TrailerWrong = 14,
+    OtherLabel = 15,
+    TooManyCuts = 16,
+    ListFull = 17,
 }
 
 // What a call answers: the entries or bytes written, or why it is refused.
-#[derive(Clone, Copy)]
-pub enum Answer {
-    Wrote(u64),
-    Refused(Refusal),
-}
-
-// What judging a call's rows comes to, before anything is written.
-#[derive(Clone, Copy)]
-pub enum Verdict {
-    Fine,
-    Wrong(Refusal),
-}
+pub type Answer = Result<u64, Refusal>;
 
 // A log has at most this many bytes.
 pub const LONGEST: u64 = 1_099_511_627_776;
@@ -88,70 +85,44 @@ impl Settings {
     pub fn in_range(self) -> bool
         ensures { result ≡ in_range self }
     {
-        let bits = self.bits;
-        if bits < 1 {
-            return false;
+        self.bits >= 1
+            && self.bits <= 31
+            && self.target >= 1
+            && self.target >> self.bits == 0
+            && self.minimum >= 48
+            && self.maximum <= 16_777_216
+            && self.minimum <= self.maximum
+    }
+
+    // The settings, if they are in range.
+    pub fn checked(self) -> Result<Checked, Refusal>
+        ensures ok { IfOk result (λ checked. checked.settings ≡ self) }
+        ensures refused { IfErr result (λ why. (why ≡ SettingsOutOfRange) × (in_range self ≡ false)) }
+    {
+        if !self.in_range() {
+            return Err(Refusal::SettingsOutOfRange);
         }
-        if bits > 31 {
-            return false;
-        }
-        let target = self.target;
-        if target < 1 {
-            return false;
-        }
-        if target >> bits != 0 {
-            return false;
-        }
-        let minimum = self.minimum;
-        let maximum = self.maximum;
-        if minimum < 48 {
-            return false;
-        }
-        if maximum > 16_777_216 {
-            return false;
-        }
-        if minimum > maximum {
-            return false;
-        }
-        true
+        Ok(Checked { settings: self })
     }
 }
 
-impl Label {
+impl From<Label> for u8 {
     // The byte that stands for a label on a sheet.
-    pub fn byte(self) -> u8
-        ensures { result ≡ byte_of self }
-    {
-        match self {
+    ghost from_gives = { λ label byte. byte ≡ byte_of label };
+
+    fn from(label: Label) -> u8 {
+        match label {
             Label::Practice => b'P',
             Label::Live => b'L',
         }
     }
 }
 
-impl Refusal {
+impl From<Refusal> for u32 {
     // The number of the refusal's row.
-    pub fn number(self) -> u32
-        ensures { result ≡ number_of self }
-    {
-        match self {
-            Refusal::SettingsOutOfRange => 1,
-            Refusal::LogTooLong => 2,
-            Refusal::CarryNotInOrder => 3,
-            Refusal::CarryClosed => 4,
-            Refusal::RoomTooShort => 5,
-            Refusal::RecordTooLong => 6,
-            Refusal::NoSuchSegment => 7,
-            Refusal::BayNotDone => 8,
-            Refusal::BayMalformed => 9,
-            Refusal::ListNotWellFormed => 10,
-            Refusal::EditOutOfRange => 11,
-            Refusal::NoSheet => 12,
-            Refusal::CheckWordWrong => 13,
-            Refusal::TrailerWrong => 14,
-            Refusal::OtherLabel => 15,
-            Refusal::TooManyCuts => 16,
-            Refusal::ListFull => 17,
-        }
+    ghost from_gives = { λ refusal number. number ≡ number_of refusal };
+
+    fn from(refusal: Refusal) -> u32 {
+        refusal as u32
     }
 }

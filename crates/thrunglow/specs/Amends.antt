@@ -1,6 +1,5 @@
 -- Amending as the exported call answers it.
-use Rattle.amending.specs.declared.Amendment.{Amendment as Amended}
-use Rattle.amending.specs.Answers.{amendment_number, front_of, recut_of, back_of}
+use Rattle.amending.specs.Answers.{Amendment as Amended, amendment_number, front_of, recut_of, back_of}
 use Rattle.thrunglow.specs.declared.amends.Amendment.{Amendment}
 
 abbrev pub counts_of : Amended → Amendment

@@ -2,8 +2,7 @@
 use Rattle.std.specs.Prelude.{Bool, true, false}
 use Rattle.terms.specs.declared.Label.{Label}
 use Rattle.terms.specs.declared.Label.TheVariants.{Practice, Live}
-use Rattle.sheet.specs.declared.Sheet.{Sheet}
-use Rattle.sheet.specs.Answers.{sheet_number, sheet_label, sheet_settings, sheet_count}
+use Rattle.sheet.specs.Answers.{SheetAnswer, sheet_number, sheet_label, sheet_settings, sheet_count}
 use Rattle.thrunglow.specs.declared.sheets.Reading.{Reading}
 
 -- a label is lent as whether it is live
@@ -11,7 +10,7 @@ abbrev pub label_of : Bool → Label
 label_of true = Live
 label_of false = Practice
 
-abbrev pub reading_of : Sheet → Reading
+abbrev pub reading_of : SheetAnswer → Reading
 reading_of sheet =
     record {
       number = sheet_number sheet;

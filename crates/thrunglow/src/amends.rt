@@ -6,7 +6,7 @@ ghost use Rattle.thrunglow.specs.Amends.{counts_of};
 use amending::edits::Edit;
 use terms::Settings;
 
-// The entries of the three parts: kept, cut again, moved. All 0 beside a refusal.
+// A number and the entries of the three parts, as C takes them: kept, cut again, moved. All 0 beside a refusal.
 #[repr(C)]
 #[derive(Clone, Copy)]
 pub struct Amendment {
@@ -16,22 +16,25 @@ pub struct Amendment {
     pub back: u64,
 }
 
-fn counted(amendment: amending::Amendment) -> Amendment
-    ensures answer { result ≡ counts_of amendment }
-{
-    match amendment {
-        amending::Amendment::Amended { front, recut, back } => Amendment {
-            number: 0,
-            front,
-            recut,
-            back,
-        },
-        amending::Amendment::Refused(why) => Amendment {
-            number: why.number(),
-            front: 0,
-            recut: 0,
-            back: 0,
-        },
+impl From<amending::Amendment> for Amendment {
+    ghost from_gives = { λ amendment answer. answer ≡ counts_of amendment };
+
+    #[tactic(auto, unfolding(amending::specs::Answers::amendment_number, amending::specs::Answers::front_of, amending::specs::Answers::recut_of, amending::specs::Answers::back_of))]
+    fn from(amendment: amending::Amendment) -> Amendment {
+        match amendment {
+            Ok(counts) => Amendment {
+                number: 0,
+                front: counts.front,
+                recut: counts.recut,
+                back: counts.back,
+            },
+            Err(why) => Amendment {
+                number: u32::from(why),
+                front: 0,
+                recut: 0,
+                back: 0,
+            },
+        }
     }
 }
 
@@ -48,5 +51,5 @@ pub fn thrunglow_amend(
     ensures list { list.new ≡ amend_leaves settings old.now (record { at = at; removed = removed; added = added }) log.now list.old }
 {
     let edit = Edit { at, removed, added };
-    counted(amending::amend(settings, old, edit, log, list))
+    Amendment::from(amending::amend(settings, old, edit, log, list))
 }

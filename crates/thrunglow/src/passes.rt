@@ -3,11 +3,11 @@ ghost use Rattle.std.specs.Prelude.{◌≡◌, length};
 ghost use Rattle.pass.specs.Calls.{fresh_outcome, block_outcome, block_leaves, close_outcome, close_leaves};
 ghost use Rattle.thrunglow.specs.Pass.{passed_of};
 
-use super::answers::numbered;
+use super::answers;
 use pass_carry::{Carry, Outcome};
 use terms::Settings;
 
-// A number, the entries written, and the carry handed back.
+// A number, the entries written, and the carry handed back, as C takes them.
 #[repr(C)]
 #[derive(Clone, Copy)]
 pub struct Passed {
@@ -16,35 +16,35 @@ pub struct Passed {
     pub carry: Carry,
 }
 
-fn handed(outcome: Outcome) -> Passed
-    ensures { result ≡ passed_of outcome }
-{
-    let answer = outcome.answer;
-    let carry = outcome.carry;
-    let plain = numbered(answer);
-    Passed {
-        number: plain.number,
-        count: plain.count,
-        carry,
+impl From<Outcome> for Passed {
+    ghost from_gives = { λ outcome passed. passed ≡ passed_of outcome };
+
+    fn from(outcome: Outcome) -> Passed {
+        let answers::Outcome { number, count } = answers::Outcome::from(outcome.answer);
+        Passed {
+            number,
+            count,
+            carry: outcome.carry,
+        }
     }
 }
 
 pub fn thrunglow_fresh(settings: Settings) -> Passed
     ensures answer { result ≡ passed_of (fresh_outcome settings) }
 {
-    handed(pass::fresh(settings))
+    Passed::from(pass::fresh(settings))
 }
 
 pub fn thrunglow_block(carry: Carry, block: &[u8], list: &mut [u64]) -> Passed
     ensures answer { result ≡ passed_of (block_outcome carry block.now (length list.old)) }
     ensures list { list.new ≡ block_leaves carry block.now list.old }
 {
-    handed(pass::block(carry, block, list))
+    Passed::from(pass::block(carry, block, list))
 }
 
 pub fn thrunglow_close(carry: Carry, list: &mut [u64]) -> Passed
     ensures answer { result ≡ passed_of (close_outcome carry (length list.old)) }
     ensures list { list.new ≡ close_leaves carry list.old }
 {
-    handed(pass::close(carry, list))
+    Passed::from(pass::close(carry, list))
 }

@@ -4,7 +4,7 @@ ghost use Rattle.board.specs.Recording.{record_answer, record_leaves, segment_an
 ghost use Rattle.board.specs.Merging.{merge_answer, merge_leaves};
 ghost use Rattle.thrunglow.specs.Outcomes.{outcome_of};
 
-use super::answers::{Outcome, numbered};
+use super::answers::Outcome;
 use terms::Settings;
 
 pub fn thrunglow_segment(
@@ -18,7 +18,7 @@ pub fn thrunglow_segment(
     ensures answer { result ≡ outcome_of (segment_answer settings log.now size width index (length board.old)) }
     ensures board { board.new ≡ segment_leaves settings log.now size width index board.old }
 {
-    numbered(board::segment(settings, log, size, width, index, board))
+    Outcome::from(board::segment(settings, log, size, width, index, board))
 }
 
 pub fn thrunglow_record(
@@ -31,7 +31,7 @@ pub fn thrunglow_record(
     ensures answer { result ≡ outcome_of (record_answer settings log.now size (length bay.old) index) }
     ensures bay { bay.new ≡ record_leaves settings log.now size index bay.old }
 {
-    numbered(board::record(settings, log, size, index, bay))
+    Outcome::from(board::record(settings, log, size, index, bay))
 }
 
 pub fn thrunglow_merge(
@@ -45,5 +45,5 @@ pub fn thrunglow_merge(
     ensures answer { result ≡ outcome_of (merge_answer settings bytes size width board.now (length list.old)) }
     ensures list { list.new ≡ merge_leaves settings bytes size width board.now list.old }
 {
-    numbered(board::merge(settings, bytes, size, width, board, list))
+    Outcome::from(board::merge(settings, bytes, size, width, board, list))
 }

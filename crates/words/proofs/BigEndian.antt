@@ -4,14 +4,14 @@ use mathlib.Core.List.{List, [], ◌∷◌, ◌++◌, append_assoc, append-nil}
 use Prim.Native.Nat.{ℕ, zero, suc, ◌+◌, ◌-◌, ◌*◌, ◌/◌, ◌%◌, ◌^◌, ◌≤◌, ◌<◌}
 use native.Mathlib.Omega.{arith}
 use native.Mathlib.Numerals.{add-one}
-use native.Mathlib.Nat.{add_comm, mul-suc, mul-zero, mod-one, lt_of_lt_of_le, mul-le-mul_left, le_of_suc-le-suc}
+use native.Mathlib.Nat.{add_comm, mul-suc, mul-zero, mod-one, lt_of_lt_of_le, mul-le-mul_left}
 use lib.Pow.{pow_mono, mod-pow-add}
 use lib.ListN.{length, take, drop, get_or, set, length-append, length-drop}
-use lib.Seq.{take-append-le, drop-append-le, take-suc, length-take-le, get_or-drop, drop-drop}
+use lib.Seq.{take-append-le, drop-append-le, take-suc, length-take-le, drop-drop}
 use lib.Arith.{digits_lt}
 use Rattle.laws.specs.Bytes.{Bytes}
 use Rattle.laws.proofs.Bytes.{byte_power, number_lt, number_snoc, bytes_take, bytes_drop}
-use Rattle.laws.proofs.Writing.{over_more, over_from_next, over_from_join}
+use Rattle.laws.proofs.Writing.{over_next, over_from_over}
 use Rattle.laws.specs.Over.{over, over_from}
 use Rattle.words.specs.Numbers.{big_endian, number, written, numbers, number_at}
 
@@ -47,12 +47,9 @@ number_at_lt l place width fits h =
     let size : length (take width (drop place l)) ≡ width = length-take-le width (drop place l) (rw length-drop (omega arith)) in
     rw size at (number_lt (take width (drop place l)) (bytes_part l place width h))
 
--- one byte more of the number at a place
-pub number_at_more : (l : List ℕ) (place width : ℕ) → place + width < length l
-    → number_at place (width + 1) l ≡ number_at place width l * 256 + get_or l (place + width) 0
-unfolding number_at
-number_at_more l place width h =
-    rw (add-one, take-suc (drop place l) width 0 (rw length-drop (omega arith)), number_snoc, get_or-drop)
+-- the number of one byte more
+pub number_more : (l : List ℕ) (i : ℕ) → i < length l → number (take (i + 1) l) ≡ number (take i l) * 256 + get_or l i 0
+number_more l i h = rw (add-one, take-suc l i 0 h, number_snoc)
 
 -- a byte more keeps a number within its range, and eight bytes within 64 bits
 pub byte_more : {n b : ℕ} (k : ℕ) → n < 2 ^ (8 * k) → b < 256 → n * 256 + b < 2 ^ (8 * (k + 1))
@@ -61,12 +58,11 @@ byte_more {n} {b} k hn hb = rw (add-one, byte_power) (digits_lt hn hb)
 pub within_64 : {n : ℕ} (k : ℕ) → k ≤ 8 → n < 2 ^ (8 * k) → n < 2 ^ 64
 within_64 k h hn = lt_of_lt_of_le hn (pow_mono {i = 8 * k} {j = 64} (omega arith))
 
--- one byte more of a number that is being written at a place
-pub byte_written : (width n place i : ℕ) (bytes : List ℕ) → i < width → place + width ≤ length bytes
-    → set (over_from place (take i (big_endian width n)) bytes) (place + i) (n / 2 ^ (8 * (width - 1 - i)) % 256)
-    ≡ over_from place (take (i + 1) (big_endian width n)) bytes
-byte_written width n place i bytes h room =
-    rw (← get_d_big_endian width n i h) (over_from_next place i (big_endian width n) bytes (rw length-big_endian h) (rw length-big_endian room))
+-- one byte more of a number that is being written
+pub byte_written : (n i : ℕ) (bytes : List ℕ) → i < length bytes
+    → set (over (take i (big_endian (length bytes) n)) bytes) i (n / 2 ^ (8 * (length bytes - 1 - i)) % 256) ≡ over (take (i + 1) (big_endian (length bytes) n)) bytes
+byte_written n i bytes h =
+    rw (← get_d_big_endian (length bytes) n i h) (over_next i (big_endian (length bytes) n) bytes (rw length-big_endian h) h)
 
 pub length_written : (width : ℕ) (list : List ℕ) → length (written width list) ≡ width * length list
 unfolding written
@@ -84,24 +80,20 @@ pub written_more : (width i : ℕ) (list : List ℕ) → i < length list
 unfolding written
 written_more width i list h = rw (add-one, take-suc list i 0 h, written_append) (ap (λ (r : List ℕ). written width (take i list) ++ r) (append-nil _))
 
-pub length_written_more : (width i : ℕ) (list : List ℕ) → i < length list
-    → length (written width (take (i + 1) list)) ≡ length (written width (take i list)) + width
-length_written_more width i list h = rw (written_more width i list h, length-append, length-big_endian)
+-- the first numbers of a list, and one more, are within all of it
+module _ (width i : ℕ) (list : List ℕ) (h : i < length list) where
+  pub length_written_front : length (written width (take i list)) ≡ width * i
+  length_written_front = length_written width (take i list) ∙ rw (length-take-le i list (omega arith)) refl
 
--- a number written after the first ones of a list is written with them
-pub written_joined : (width i at place : ℕ) (list b bytes bytes' : List ℕ) → i < length list → at ≤ length b
-    → place ≡ at + length (written width (take i list))
-    → bytes ≡ over_from at (written width (take i list)) b
-    → bytes' ≡ over_from place (big_endian width (get_or list i 0)) bytes
-    → bytes' ≡ over_from at (written width (take (i + 1) list)) b
-written_joined width i at place list b bytes bytes' h room e f g =
-    rw (g, f, e, written_more width i list h) (over_from_join at (written width (take i list)) (big_endian width (get_or list i 0)) b room)
+  pub written_room : width * i + width ≤ length (written width list)
+  written_room =
+      let whole : width * (i + 1) ≤ width * length list = mul-le-mul_left width (omega arith) in
+      rw length_written (rw (add-one, mul-suc) at whole)
 
-pub written_room : (width i : ℕ) (list : List ℕ) → i < length list
-    → length (written width (take i list)) + width ≤ length (written width list)
-written_room width i list h =
-    let whole : width * (i + 1) ≤ width * length list = mul-le-mul_left width (omega arith) in
-    rw (length_written, length_written width list, length-take-le i list (omega arith)) (rw (add-one, mul-suc) at whole)
+  -- a number written after the first ones is written with them
+  pub written_joined : (b : List ℕ) → over_from (width * i) (big_endian width (get_or list i 0)) (over (written width (take i list)) b) ≡ over (written width (take (i + 1) list)) b
+  written_joined b =
+      rw (← length_written_front, written_more width i list h) (over_from_over (written width (take i list)) (big_endian width (get_or list i 0)) b)
 
 -- one number more
 pub numbers_more : (width count : ℕ) (bytes : List ℕ) → numbers width (suc count) bytes ≡ numbers width count bytes ++ (number_at (width * count) width bytes ∷ [])
@@ -115,21 +107,6 @@ pub length-numbers : (width count : ℕ) (bytes : List ℕ) → length (numbers 
 unfolding numbers
 length-numbers width zero bytes = refl
 length-numbers width (suc count) bytes = ap suc (length-numbers width count (drop width bytes))
-
--- one offset more of those that are being written to a list
-pub offset-written : (width i : ℕ) (bytes list : List ℕ) → i < length list
-    → set (over (numbers width i bytes) list) i (number_at (width * i) width bytes) ≡ over (numbers width (i + 1) bytes) list
-offset-written width i bytes list h =
-    let size = length-numbers width i bytes in
-    let more = over_more (numbers width i bytes) list (number_at (width * i) width bytes) (rw size h) in
-    rw size at more ∙ rw (add-one, numbers_more)
-
-pub get_d_numbers : (width count i : ℕ) (bytes : List ℕ) → i < count → get_or (numbers width count bytes) i 0 ≡ number_at (width * i) width bytes
-unfolding numbers number_at
-get_d_numbers width zero i bytes h = absurd (omega arith)
-get_d_numbers width (suc count) zero bytes h = rw mul-zero
-get_d_numbers width (suc count) (suc i) bytes h =
-    get_d_numbers width count i (drop width bytes) (le_of_suc-le-suc h) ∙ rw (drop-drop, mul-suc, add_comm width (width * i))
 
 -- the first numbers stand in the first bytes
 pub numbers_front : (width count : ℕ) (front rest : List ℕ) → width * count ≤ length front → numbers width count (front ++ rest) ≡ numbers width count front

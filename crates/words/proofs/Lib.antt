@@ -4,3 +4,5 @@ pub mod BigEndian
 pub mod Back
 -- runs of bytes compared
 pub mod Same
+-- numbers read from chunks of bytes
+pub mod Chunks

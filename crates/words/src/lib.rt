@@ -1,4 +1,4 @@
-// Bytes that stand for something: big-endian numbers of any width, and runs of bytes that are compared or written as they are.
+// Bytes that stand for something: big-endian numbers of any width, and runs of bytes that are compared.
 #![tactic(auto)]
 
 pub mod numbers;

@@ -1,51 +1,40 @@
-// Big-endian numbers in bytes, each way.
-ghost use Rattle.std.specs.Prelude.{◌≡◌, ◌+◌, ◌*◌, ◌^◌, ◌≤◌, ◌<◌, length};
-ghost use Rattle.laws.specs.Over.{over_from};
-ghost use Rattle.words.specs.Numbers.{big_endian, written, number_at};
+// Big-endian numbers in bytes, each way. That a number has eight bytes at most is asked in each contract: a type for so short a slice would be
+// made at each call, for this one fact.
+ghost use Rattle.std.specs.Prelude.{◌≡◌, ◌*◌, ◌^◌, ◌≤◌, ◌<◌, length};
+ghost use Rattle.laws.specs.Over.{over};
+ghost use Rattle.words.specs.Numbers.{big_endian, written, number};
 
-fn wide(byte: u8) -> u64
-    ensures { result ≡ byte }
+// The number that bytes stand for, the first of them highest. It is inner: the caller lends eight bytes at most.
+pub fn number(bytes: &[u8]) -> u64
+    requires { length bytes.now ≤ 8 }
+    ensures { (result ≡ number bytes.now) × (result < 2 ^ (8 * length bytes.now)) }
 {
-    byte as u64
-}
-
-// The number of a width that stands at a place. It is inner: the caller sees that it stands within the bytes.
-pub fn number_at(width: usize, at: usize, bytes: &[u8]) -> u64
-    requires { (width ≤ 8) × (at + width ≤ length bytes.now) }
-    ensures { (result ≡ number_at at width bytes.now) × (result < 2 ^ (8 * width)) }
-{
-    let mut number: u64 = 0;
-    let mut i = 0;
-    while i < width {
-        number = number * 256 + wide(bytes[at + i]);
-        i += 1;
+    let mut high: u64 = 0;
+    for byte in bytes {
+        high = high * 256 + u64::from(*byte);
     }
-    number
+    high
 }
 
-// Writes a number at a place, its highest byte first. It is inner: the caller sees that there is room.
-pub fn put_number(width: usize, number: u64, at: usize, bytes: &mut [u8])
-    requires { (width ≤ 8) × (at + width ≤ length bytes.old) }
-    ensures { bytes.new ≡ over_from at (big_endian width number) bytes.old }
+// Writes a number's low bytes, as many as are lent, the highest of them first. It is inner: the caller lends eight bytes at most.
+pub fn put_number(number: u64, bytes: &mut [u8])
+    requires { length bytes.old ≤ 8 }
+    ensures { bytes.new ≡ big_endian (length bytes.old) number }
 {
-    let mut i = 0;
-    while i < width {
+    let width = bytes.len();
+    for (i, byte) in bytes.iter_mut().enumerate() {
         let shift = 8 * (width - 1 - i);
-        bytes[at + i] = ((number >> shift) % 256) as u8;
-        i += 1;
+        *byte = ((number >> shift) % 256) as u8;
     }
 }
 
-// Writes numbers of one width from a place on, one after the other. It is inner: the caller sees that there is room.
-pub fn put_numbers(width: usize, list: &[u64], at: usize, bytes: &mut [u8])
-    requires { (width ≤ 8) × (at + length (written width list.now) ≤ length bytes.old) }
-    ensures { bytes.new ≡ over_from at (written width list.now) bytes.old }
+// Writes numbers of one width from the first byte on, one after the other. It is inner: the caller sees that there is room.
+pub fn put_numbers(width: usize, list: &[u64], bytes: &mut [u8])
+    requires { (width ≤ 8) × (length (written width list.now) ≤ length bytes.old) }
+    ensures { bytes.new ≡ over (written width list.now) bytes.old }
 {
-    let mut place = at;
-    let mut i = 0;
-    while i < list.len() {
-        put_number(width, list[i], place, bytes);
-        place += width;
-        i += 1;
+    for (i, number) in list.iter().enumerate() {
+        let at = width * i;
+        put_number(*number, &mut bytes[at..at + width]);
     }
 }

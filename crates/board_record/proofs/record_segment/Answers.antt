@@ -1,55 +1,66 @@
 -- `board_record::record_segment` meets its contract: the stretch it lends has the log's marks.
-use Rattle.std.proofs.Common.{length, arith}
+use Rattle.std.proofs.Common.{◌≡◌, ◌*◌, arith}
 use Rattle.terms.proofs.Ranges.{ranges}
-use Rattle.board_bays.proofs.Ranges.{begins_below}
-use Rattle.board_record.proofs.Parts.{stretch_long, stretch_fine, from_zero, from_stretch, lead}
+use Rattle.board_bays.specs.Segments.{segment_start}
+use Rattle.board_record.proofs.Parts.{inside, starts_before, stretch_fine, from_zero, from_stretch, lead}
 use Rattle.board_record.proofs.record_segment.Goals as goal
 
-pub overflow_mul-start : goal.overflow_mul-start
-overflow_mul-start c =
-    let there = c.requires.1 in
-    omega (arith, begins_below (length c.args.log.now) c.args.size (omega (arith, there.large)) c.args.i there.there, there.short)
+pub slice_bounds-stretch-end : goal.slice_bounds-stretch-end
+slice_bounds-stretch-end c =
+    inside c.args.rule.settings c.args.log.now _ _ (rw c.requires at c.args.segment.there) (ranges _ c.args.rule.ranged) _ (rw c.requires at c.end-last.ensures)
 
-pub end_of-last-requires : goal.end_of-last-requires
-end_of-last-requires c =
-    let there = c.requires.1 in
-    let below = begins_below (length c.args.log.now) c.args.size (omega (arith, there.large)) c.args.i there.there in
-    (omega arith, there.short, there.bounded)
-
-pub slice_bounds-record_cuts-end : goal.slice_bounds-record_cuts-end
-slice_bounds-record_cuts-end c = omega (arith, c.end_of-last.ensures)
-
-pub record_cuts-made-requires-clause-count_le_cut : goal.record_cuts-made-requires-clause-count_le_cut
-record_cuts-made-requires-clause-count_le_cut c =
-    let long = stretch_long c.args.settings c.args.log.now 0 c.end_of-last.result (omega arith) (omega (arith, c.end_of-last.ensures)) in
-    (omega arith, omega arith, omega arith, omega (arith, long, c.end_of-last.ensures, c.requires.1.short))
-
-pub returns-then-i-eq0 : goal.returns-then-i-eq0
-returns-then-i-eq0 c =
-    from_zero _ c.args.log.now _ _ c.requires.1 (ranges _ c.requires.0) _ c.end_of-last.ensures c.if-i-eq0.true c.record_cuts-made.ensures
+pub returns-then-segment-eq0 : goal.returns-then-segment-eq0
+returns-then-segment-eq0 c =
+    from_zero _ c.args.log.now _ _ (rw c.requires at c.args.segment.there) (ranges _ c.args.rule.ranged) _ (rw c.requires at c.end-last.ensures)
+    c.if-segment-eq0.true c.after.ensures.count c.after.ensures.cut (rw c.new-cutter.ensures at c.record_cuts-made.ensures)
 
 pub overflow_sub-base : goal.overflow_sub-base
-overflow_sub-base c = omega (arith, lead _ c.args.log.now _ _ c.requires.1 (ranges _ c.requires.0) _ c.end_of-last.ensures c.if-i-eq0.false)
+unfolding segment_start
+overflow_sub-base c =
+    let led =
+    lead c.args.rule.settings c.args.log.now _ _ (rw c.requires at c.args.segment.there) (ranges _ c.args.rule.ranged) _ (rw c.requires at c.end-last.ensures)
+    c.if-segment-eq0.false in
+    omega (arith, led, c.start-start.ensures)
 
-pub slice_bounds-record_marks-count : goal.slice_bounds-record_marks-count
-slice_bounds-record_marks-count c =
-    let there = c.requires.1 in
-    let below = begins_below (length c.args.log.now) c.args.size (omega (arith, there.large)) c.args.i there.there in
-    omega (arith, c.end_of-last.ensures, there.large)
+pub slice_bounds-stretch-count-2 : goal.slice_bounds-stretch-count-2
+unfolding segment_start
+slice_bounds-stretch-count-2 c =
+    let below =
+    starts_before c.args.rule.settings c.args.log.now _ _ (rw c.requires at c.args.segment.there) (ranges _ c.args.rule.ranged) _
+    (rw c.requires at c.end-last.ensures) in
+    omega (arith, below, c.start-start.ensures)
 
-pub slice_bounds-record_marks-start : goal.slice_bounds-record_marks-start
-slice_bounds-record_marks-start c =
-    let there = c.requires.1 in
-    let below = begins_below (length c.args.log.now) c.args.size (omega (arith, there.large)) c.args.i there.there in
-    omega (arith, c.end_of-last.ensures, there.large)
+pub slice_bounds-stretch-start-2 : goal.slice_bounds-stretch-start-2
+unfolding segment_start
+slice_bounds-stretch-start-2 c =
+    let below =
+    starts_before c.args.rule.settings c.args.log.now _ _ (rw c.requires at c.args.segment.there) (ranges _ c.args.rule.ranged) _
+    (rw c.requires at c.end-last.ensures) in
+    omega (arith, below, c.start-start.ensures)
 
-pub slice_bounds-record_marks-end : goal.slice_bounds-record_marks-end
-slice_bounds-record_marks-end c = omega (arith, c.end_of-last.ensures)
+pub slice_bounds-stretch-end-2 : goal.slice_bounds-stretch-end-2
+slice_bounds-stretch-end-2 c =
+    inside c.args.rule.settings c.args.log.now _ _ (rw c.requires at c.args.segment.there) (ranges _ c.args.rule.ranged) _ (rw c.requires at c.end-last.ensures)
 
-pub record_marks-requires-clause-in_bounds : goal.record_marks-requires-clause-in_bounds
-record_marks-requires-clause-in_bounds c =
-    stretch_fine c.args.settings c.args.log.now _ _ c.requires.1 (ranges _ c.requires.0) _ c.end_of-last.ensures c.if-i-eq0.false
+pub invariant_of-stretch-2 : goal.invariant_of-stretch-2
+unfolding segment_start
+invariant_of-stretch-2 c =
+    let fine =
+    stretch_fine c.args.rule.settings c.args.log.now _ _ (rw c.requires at c.args.segment.there) (ranges _ c.args.rule.ranged) _
+    (rw c.requires at c.end-last.ensures) c.if-segment-eq0.false in
+    record { in_bounds = rw c.start-start.ensures fine.1 }
+
+pub record_marks-requires : goal.record_marks-requires
+unfolding segment_start
+record_marks-requires c =
+    let fine =
+    stretch_fine c.args.rule.settings c.args.log.now _ _ (rw c.requires at c.args.segment.there) (ranges _ c.args.rule.ranged) _
+    (rw c.requires at c.end-last.ensures) c.if-segment-eq0.false in
+    rw c.start-start.ensures fine.0
 
 pub returns : goal.returns
+unfolding segment_start
 returns c =
-    from_stretch _ c.args.log.now _ _ c.requires.1 (ranges _ c.requires.0) _ c.end_of-last.ensures c.if-i-eq0.false c.record_marks.ensures
+    let start : c.start-start.result ≡ c.args.segment.i * c.args.segment.size = c.start-start.ensures in
+    from_stretch _ c.args.log.now _ _ (rw c.requires at c.args.segment.there) (ranges _ c.args.rule.ranged) _ (rw c.requires at c.end-last.ensures)
+    c.if-segment-eq0.false (rw (start, c.new-cutter.ensures) at c.record_marks.ensures)

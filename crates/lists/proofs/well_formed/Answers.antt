@@ -1,25 +1,18 @@
 -- `lists::well_formed` meets its contract: an entry's step is passed or decides, and the end leaves the bound.
-use Rattle.std.proofs.Common.{refl, sym, ◌∙◌, arith}
-use borrow.Author.Tests.{le-leb, lt-leb}
+use Rattle.std.proofs.Common.{refl, sym, ◌∙◌}
 use Rattle.lists.specs.WellFormed.{well_formed}
 use Rattle.lists.proofs.Steps.{step_passed, step_refused, steps_end}
 use Rattle.lists.proofs.well_formed.Goals as goal
 
 pub loop-i-init : goal.loop-i-init
 unfolding well_formed
-loop-i-init c = record { within = omega arith; judged = refl }
+loop-i-init c = refl
 
 pub returns-then-not-step_fits : goal.returns-then-not-step_fits
-returns-then-not-step_fits c = sym (c.loop-i.invariant.judged ∙ step_refused _ _ _ _ _ _ c.loop-i-test.true c.step_fits.ensures c.if-not-step_fits.true)
+returns-then-not-step_fits c = sym (c.loop-i.invariant ∙ step_refused _ _ _ _ _ _ c.loop-i-test.true c.step_fits.ensures c.if-not-step_fits.true)
 
 pub loop-i-preserved : goal.loop-i-preserved
-loop-i-preserved c = record {
-  within = omega arith;
-  judged = c.loop-i.invariant.judged ∙ step_passed _ _ _ _ _ _ c.loop-i-test.true c.step_fits.ensures c.if-not-step_fits.false;
-}
-
-pub returns-then-before-gt-LONGEST : goal.returns-then-before-gt-LONGEST
-returns-then-before-gt-LONGEST c = sym (c.loop-i.invariant.judged ∙ steps_end _ _ _ _ _ c.loop-i-test.false ∙ lt-leb _ _ c.if-before-gt-LONGEST.true)
+loop-i-preserved c = c.loop-i.invariant ∙ step_passed _ _ _ _ _ _ c.loop-i-test.true c.step_fits.ensures c.if-not-step_fits.false
 
 pub returns : goal.returns
-returns c = sym (c.loop-i.invariant.judged ∙ steps_end _ _ _ _ _ c.loop-i-test.false ∙ le-leb _ _ c.if-before-gt-LONGEST.false)
+returns c = sym (c.loop-i.invariant ∙ steps_end _ _ _ _ _ c.loop-i-test.false)

@@ -1,10 +1,8 @@
 -- `amending::parts::front_count` meets its contract.
-use Rattle.std.proofs.Common.{sym, ◌∙◌}
-use Rattle.amending.proofs.Front.{count_none, count_is}
+use Rattle.std.proofs.Common.{◌∙◌}
+use Rattle.amending.proofs.Places.{below_until}
+use Rattle.amending.proofs.Front.{count_is}
 use Rattle.amending.proofs.parts.front_count.Goals as goal
 
-pub returns-then-old-eq0 : goal.returns-then-old-eq0
-returns-then-old-eq0 c = sym (count_none _ _ c.if-old-eq0.true)
-
 pub returns : goal.returns
-returns c = c.climb.ensures ∙ count_is _ _ c.if-old-eq0.false
+returns c = rw c.saturating_sub.ensures at c.climb.ensures ∙ below_until _ _ ∙ count_is c.args.place c.args.old.now

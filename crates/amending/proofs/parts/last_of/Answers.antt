@@ -1,10 +1,11 @@
 -- `amending::parts::last_of` meets its contract.
-use Rattle.std.proofs.Common.{sym, rules}
-use Rattle.amending.proofs.Places.{last_none, last_at}
+use Rattle.std.proofs.Common.{◌∙◌, ◌-◌, length, ap}
+use Rattle.std.specs.Prelude.{unwrap_or}
+use Rattle.std.proofs.lemmas.Option.{unwrap_or-slice_get}
+use Rattle.amending.proofs.Places.{last_told}
 use Rattle.amending.proofs.parts.last_of.Goals as goal
 
-pub returns-then-list-eq0 : goal.returns-then-list-eq0
-returns-then-list-eq0 c = sym (last_none _ c.if-list-eq0.true)
-
 pub returns : goal.returns
-returns c = sym (last_at 0 _ (search rules))
+returns c =
+    let list = c.args.list.now in
+    c.unwrap_or.ensures ∙ ap (λ last. unwrap_or last 0) (c.copied.ensures ∙ c.last.ensures.value) ∙ unwrap_or-slice_get list (length list - 1) 0 ∙ last_told 0 list

@@ -9,8 +9,8 @@ pub returns-then-bay-eq0 : goal.returns-then-bay-eq0
 unfolding bay_rows
 returns-then-bay-eq0 c = judged_wrong top (ap not (not_done _ c.if-bay-eq0.true))
 
-pub is_sound-requires-clause-in_bounds : goal.is_sound-requires-clause-in_bounds
-is_sound-requires-clause-in_bounds c = (c.requires.in_bounds, is_done_lem _ c.if-bay-eq0.false)
+pub is_sound-requires : goal.is_sound-requires
+is_sound-requires c = is_done_lem _ c.if-bay-eq0.false
 
 pub returns-then-not-is_sound : goal.returns-then-not-is_sound
 unfolding bay_rows

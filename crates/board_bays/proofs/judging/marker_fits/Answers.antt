@@ -7,8 +7,8 @@ use Rattle.board_bays.proofs.judging.marker_fits.Goals as goal
 pub returns-then-i-gt0 : goal.returns-then-i-gt0
 returns-then-i-gt0 c = c.marker_listed.ensures ∙ sym (later_marker _ _ _ _ c.if-i-gt0.true)
 
-pub returns-then-marker-ne0 : goal.returns-then-marker-ne0
-returns-then-marker-ne0 c = sym (first_marker _ _ _ _ c.if-i-gt0.false ∙ rw (ne_eqb _ _ c.if-marker-ne0.true))
+pub returns-then-noted-eq0 : goal.returns-then-noted-eq0
+returns-then-noted-eq0 c = c.steps_within.ensures ∙ sym (first_marker _ _ _ _ c.if-i-gt0.false ∙ rw (eq-eqb _ _ c.if-noted-eq0.true))
 
-pub returns : goal.returns
-returns c = c.steps_within.ensures ∙ sym (first_marker _ _ _ _ c.if-i-gt0.false ∙ rw (eq-eqb _ _ c.if-marker-ne0.false))
+pub returns-else-noted-eq0 : goal.returns-else-noted-eq0
+returns-else-noted-eq0 c = sym (first_marker _ _ _ _ c.if-i-gt0.false ∙ rw (ne_eqb _ _ c.if-noted-eq0.false))

@@ -1,16 +1,10 @@
 -- `board_bays::judging::marker_listed` meets its contract: the marker is found, or nowhere.
-use Rattle.std.proofs.Common.{sym, ◌∙◌, arith}
-use Rattle.board_bays.proofs.Offsets.{marker_on, marker_here, marker_none}
+use Rattle.std.proofs.Common.{sym, ◌∙◌}
+use Rattle.board_bays.proofs.Offsets.{marker_found, marker_nowhere}
 use Rattle.board_bays.proofs.judging.marker_listed.Goals as goal
 
-pub returns-then-offsets-k : goal.returns-then-offsets-k
-returns-then-offsets-k c = c.steps_within.ensures ∙ sym (c.loop-k.invariant.judged ∙ marker_here _ _ c.loop-k-test.true _ _ _ c.if-offsets-k.true)
+pub returns-in-Some : goal.returns-in-Some
+returns-in-Some c = c.steps_within.ensures ∙ sym (marker_found _ _ _ _ _ (sym c.place_of.ensures ∙ c.in-Some.is))
 
-pub loop-k-preserved : goal.loop-k-preserved
-loop-k-preserved c = record {
-  within = omega arith;
-  judged = c.loop-k.invariant.judged ∙ marker_on _ _ c.loop-k-test.true _ _ _ c.if-offsets-k.false;
-}
-
-pub returns : goal.returns
-returns c = sym (c.loop-k.invariant.judged ∙ marker_none _ _ c.loop-k-test.false _ _ _)
+pub returns-in-None : goal.returns-in-None
+returns-in-None c = sym (marker_nowhere _ _ _ _ (sym c.place_of.ensures ∙ c.in-None.is))

@@ -1,18 +1,17 @@
 -- `board_bays::shapes::board_fits` meets its contract: the board is compared by dividing, so that nothing wraps.
-use Rattle.std.proofs.Common.{sym, arith}
-use borrow.Author.Tests.{lt-leb}
+use Rattle.std.proofs.Common.{sym, ◌∙◌, arith}
 use Rattle.board_bays.specs.Segments.{board_fits}
-use Rattle.board_bays.proofs.Ranges.{sizes, too_few}
+use Rattle.board_bays.proofs.Ranges.{sizes, enough_is}
 use Rattle.board_bays.proofs.shapes.board_fits.Goals as goal
 
-pub nonzero_div-numbers : goal.nonzero_div-numbers
-nonzero_div-numbers c = omega (arith, (sizes _ _ (sym c.if-not-shape_fits.ensures)).2)
-
 pub segments_of-requires : goal.segments_of-requires
-segments_of-requires c = (sizes _ _ (sym c.if-not-shape_fits.ensures)).0
+segments_of-requires c = (sizes _ _ (sym c.shape_fits.ensures ∙ c.if-shape_fits.true)).0
 
-pub returns-then-numbers-width : goal.returns-then-numbers-width
+pub nonzero_div-result : goal.nonzero_div-result
+nonzero_div-result c = omega (arith, (sizes _ _ (sym c.shape_fits.ensures ∙ c.if-shape_fits.true)).2)
+
+pub returns-then-shape_fits : goal.returns-then-shape_fits
 unfolding board_fits
-returns-then-numbers-width c =
-    let fine = sym c.if-not-shape_fits.ensures in
-    rw (fine, lt-leb _ _ (too_few _ _ _ _ (sizes _ _ fine).2 c.segments_of.ensures c.if-numbers-width.true))
+returns-then-shape_fits c =
+    let fine = sym c.shape_fits.ensures ∙ c.if-shape_fits.true in
+    rw fine (enough_is _ _ _ _ (sizes _ _ fine).2 c.segments_of.ensures)

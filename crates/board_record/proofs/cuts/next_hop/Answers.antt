@@ -1,45 +1,42 @@
 -- `board_record::cuts::next_hop` meets its contract, each way by its law.
-use Rattle.std.proofs.Common.{arith}
+use Rattle.std.proofs.Common.{◌≡◌, ℕ, ◌+◌, ◌-◌, arith}
 use Rattle.terms.proofs.Ranges.{ranges}
 use Rattle.board_record.proofs.Stretching.{too_near, marked_hop, forced_end, open_end}
 use Rattle.board_record.proofs.cuts.next_hop.Goals as goal
 
-pub overflow_add-first : goal.overflow_add-first
-overflow_add-first c = omega (arith, c.requires.cut_in_bounds, ranges _ c.requires.settings_value)
+pub overflow_add-at : goal.overflow_add-at
+overflow_add-at c = omega (arith, c.requires, ranges _ c.args.cutter.now.ranged)
 
-pub returns-then-first-stretch : goal.returns-then-first-stretch
-returns-then-first-stretch c = too_near _ _ _ (ranges _ c.requires.settings_value) c.if-first-stretch.true
+pub returns-then-at-bytes-clause-leaves : goal.returns-then-at-bytes-clause-leaves
+returns-then-at-bytes-clause-leaves c = too_near _ _ _ (ranges _ c.args.cutter.now.ranged) c.if-at-bytes.true
 
-pub end_of-last-requires : goal.end_of-last-requires
-end_of-last-requires c = (c.requires.cut_in_bounds.0, c.requires.cut_in_bounds.1, omega (arith, ranges _ c.requires.settings_value))
+pub overflow_add-cut : goal.overflow_add-cut
+overflow_add-cut c = omega (arith, c.requires, ranges _ c.args.cutter.now.ranged)
 
-pub overflow_sub-first : goal.overflow_sub-first
-overflow_sub-first c = omega (arith, ranges _ c.requires.settings_value)
+pub overflow_sub-at : goal.overflow_sub-at
+overflow_sub-at c = omega (arith, ranges _ c.args.cutter.now.ranged)
 
-pub of_window-here-requires : goal.of_window-here-requires
-of_window-here-requires c = (omega (arith, ranges _ c.requires.settings_value, c.if-first-stretch.false), c.requires.tables_value)
-
-pub seek-spot-requires-clause-bits_bound : goal.seek-spot-requires-clause-bits_bound
-seek-spot-requires-clause-bits_bound c = (ranges _ c.requires.settings_value).few_bits
-
-pub seek-spot-requires-clause-le_first : goal.seek-spot-requires-clause-le_first
-seek-spot-requires-clause-le_first c =
-    let allowed = ranges _ c.requires.settings_value in (
+pub seek-requires-clause-bounds : goal.seek-requires-clause-bounds
+seek-requires-clause-bounds c =
+    let allowed = ranges _ c.args.cutter.now.ranged in (
       omega (arith, allowed.window-fits),
-      omega (arith, allowed.ordered, c.if-first-stretch.false, c.end_of-last.ensures),
-      omega (arith, c.end_of-last.ensures),
-      c.of_window-here.ensures,
+      omega (arith, allowed.ordered, c.if-at-bytes.false, c.min-last.ensures),
+      omega (arith, c.min-last.ensures),
     )
 
-pub returns-then-spot : goal.returns-then-spot
-returns-then-spot c = marked_hop _ _ _ (ranges _ c.requires.settings_value) c.end_of-last.ensures c.seek-spot.ensures c.if-spot.true
+pub seek-requires-clause-signature : goal.seek-requires-clause-signature
+seek-requires-clause-signature c =
+    let at : ℕ = c.args.cut + c.args.cutter.now.marks.settings.minimum in
+    let wide : at - (at - 48) ≡ 48 = omega (arith, ranges _ c.args.cutter.now.ranged) in
+    rw wide at c.of_window-signature.ensures
 
-pub returns-then-last-cut : goal.returns-then-last-cut
-returns-then-last-cut c =
-    forced_end _ _ _ (ranges _ c.requires.settings_value) c.end_of-last.ensures c.seek-spot.ensures c.if-spot.false c.requires.cut_in_bounds.0
-    c.if-last-cut.true
+pub returns-in-Ok-clause-stays : goal.returns-in-Ok-clause-stays
+returns-in-Ok-clause-stays c = marked_hop _ _ _ (ranges _ c.args.cutter.now.ranged) c.min-last.ensures c.in-Ok.ensures.found
 
-pub returns : goal.returns
-returns c =
-    open_end _ _ _ (ranges _ c.requires.settings_value) c.end_of-last.ensures c.seek-spot.ensures c.if-spot.false c.requires.cut_in_bounds.0
-    c.if-last-cut.false
+pub returns-then-last-cut-clause-stays : goal.returns-then-last-cut-clause-stays
+returns-then-last-cut-clause-stays c =
+    forced_end _ _ _ (ranges _ c.args.cutter.now.ranged) c.min-last.ensures c.in_default.ensures.ended c.requires.0 c.if-last-cut.true
+
+pub returns-clause-leaves : goal.returns-clause-leaves
+returns-clause-leaves c =
+    open_end _ _ _ (ranges _ c.args.cutter.now.ranged) c.min-last.ensures c.in_default.ensures.ended c.requires.0 c.if-last-cut.false

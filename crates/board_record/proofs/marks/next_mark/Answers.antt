@@ -4,14 +4,9 @@ use Rattle.signature.proofs.Windows.{signature_lt}
 use Rattle.cutting.proofs.Searching.{rolled_on}
 use Rattle.board_record.proofs.marks.next_mark.Goals as goal
 
-pub roll-here-requires : goal.roll-here-requires
-roll-here-requires c = (signature_lt _ c.requires.le_at.2, c.requires.tables_value)
+pub roll-signature-requires : goal.roll-signature-requires
+roll-signature-requires c = signature_lt _ c.requires.2
 
-pub seek-requires-clause-le_first : goal.seek-requires-clause-le_first
-seek-requires-clause-le_first c =
-    let asked = c.requires.le_at in (
-      omega arith,
-      omega arith,
-      omega arith,
-      rolled_on _ (λ j. (c.type_inv.stretch j).fits) _ asked.0 asked.1 _ _ asked.2 c.roll-here.ensures,
-    )
+pub seek-requires-clause-signature : goal.seek-requires-clause-signature
+seek-requires-clause-signature c =
+    rolled_on _ (λ j. (c.type_inv.bytes j).fits) _ c.requires.0 (omega (arith, c.requires.1, c.if-at-bytes.false)) _ _ c.requires.2 c.roll-signature.ensures

@@ -3,8 +3,9 @@ use Rattle.std.proofs.Common.{◌-◌, length}
 use Rattle.board_record.proofs.Slow.{Slowly}
 use Rattle.board_record.proofs.marks.record_after.Given as goal
 
-abbrev pub invariant-loop-spot : goal.invariant-loop-spot
-invariant-loop-spot l = Slowly l.settings l.stretch l.base l.initial.spot l.initial.list l.list l.spot l.count
+abbrev pub invariant-loop-next : goal.invariant-loop-next
+invariant-loop-next l =
+    Slowly l.cutter.marks.settings l.stretch.bytes.now l.stretch.base l.fn.first l.initial.made l.initial.list l.spot l.made l.list
 
-abbrev pub decreases-loop-spot : goal.decreases-loop-spot
-decreases-loop-spot l = length l.stretch - l.spot.at
+abbrev pub decreases-loop-next : goal.decreases-loop-next
+decreases-loop-next l = length l.stretch.bytes.now - l.spot.at

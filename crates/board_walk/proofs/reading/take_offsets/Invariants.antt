@@ -1,15 +1,11 @@
--- The invariant of `board_walk::reading::take_offsets`: the offsets before place k are made, and the rest are left and rise.
-use Rattle.std.proofs.Common.{◌≡◌, ◌≤◌, ◌-◌, ◌^◌, true, length, drop}
+-- The invariant of `board_walk::reading::take_offsets`: the offsets so far are made, and the rest are left and rise.
+use Rattle.std.proofs.Common.{◌≡◌, ◌^◌, true, drop}
 use Rattle.board_bays.specs.Bays.{rises_within}
 use Rattle.lists.proofs.Putting.{Underway}
 use Rattle.board_walk.proofs.reading.take_offsets.Given as goal
 
-abbrev pub invariant-loop-k : goal.invariant-loop-k
-invariant-loop-k l = record {
-  within : l.k ≤ length l.offsets;
-  rising : rises_within l.cut (2 ^ 40) (drop l.k l.offsets) ≡ true;
-  way : Underway l.offsets (drop l.k l.offsets) l.fn.made l.fn.list l.count l.cut l.list;
+abbrev pub invariant-loop-p : goal.invariant-loop-p
+invariant-loop-p l = record {
+  rising : rises_within l.made.cut (2 ^ 40) (drop l.p-index l.offsets) ≡ true;
+  way : Underway l.offsets (drop l.p-index l.offsets) l.fn.made l.made l.fn.list l.list;
 }
-
-abbrev pub decreases-loop-k : goal.decreases-loop-k
-decreases-loop-k l = length l.offsets - l.k

@@ -11,4 +11,4 @@ end-follows s block cut ok e =
     searched s block cut cut cut (omega arith) (too_near (mark s block) (cut + s.minimum) cut (omega (arith, ok.window-fits)))
 
 pub returns-then-cut-block : goal.returns-then-cut-block
-returns-then-cut-block c = end-follows _ _ _ (ranges _ c.requires.settings_value) c.if-cut-block.true
+returns-then-cut-block c = end-follows _ _ _ (ranges _ c.args.cutter.now.ranged) c.if-cut-block.true

@@ -1,15 +1,16 @@
 -- The offsets are well formed exactly where their steps from the entry before on fit.
-use Rattle.std.proofs.Common.{◌≡◌, ◌-◌, ◌/◌, ◌≤◌, length, drop}
+use Rattle.std.proofs.Common.{◌≡◌, drop}
+use Rattle.std.specs.Iterator.Adapters.{enumerate_source, enumerate_count}
 use Rattle.lists.specs.WellFormed.{steps_fit, well_formed}
 use Rattle.words.specs.Numbers.{numbers_of}
+use Rattle.words.proofs.Chunks.{Left}
 use Rattle.sheet_format.proofs.body.is_well_formed.Given as goal
 
 abbrev pub invariant-loop-i : goal.invariant-loop-i
 invariant-loop-i l =
     record {
-      within : l.i ≤ length l.body / 8;
-      rest : well_formed l.minimum l.maximum (numbers_of 8 l.body) ≡ steps_fit l.minimum l.maximum l.before (drop l.i (numbers_of 8 l.body));
+      left : Left 8 (numbers_of 8 l.body) (enumerate_count l.i-iterator) (enumerate_source l.i-iterator);
+      rest :
+          well_formed l.settings.minimum l.settings.maximum (numbers_of 8 l.body)
+          ≡ steps_fit l.settings.minimum l.settings.maximum l.before (drop (enumerate_count l.i-iterator) (numbers_of 8 l.body));
     }
-
-abbrev pub decreases-loop-i : goal.decreases-loop-i
-decreases-loop-i l = length l.body / 8 - l.i

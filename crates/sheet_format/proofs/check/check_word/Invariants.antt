@@ -1,11 +1,13 @@
--- The sum so far is that of the first words, modulo 2^32.
-use Rattle.std.proofs.Common.{◌≡◌, ◌-◌, ◌/◌, ◌%◌, ◌^◌, ◌≤◌, length}
-use Rattle.words.specs.Numbers.{numbers}
+-- The sum so far is that of the words so far, modulo 2^32.
+use Rattle.std.proofs.Common.{◌≡◌, ◌%◌, ◌^◌, length, take}
+use Rattle.words.specs.Numbers.{numbers_of}
+use Rattle.words.proofs.Chunks.{Left}
 use Rattle.sheet_format.specs.Forms.{total}
 use Rattle.sheet_format.proofs.check.check_word.Given as goal
 
-abbrev pub invariant-loop-i : goal.invariant-loop-i
-invariant-loop-i l = record { within : l.i ≤ length l.bytes / 4; sum : l.sum ≡ total (numbers 4 l.i l.bytes) % 2 ^ 32 }
-
-abbrev pub decreases-loop-i : goal.decreases-loop-i
-decreases-loop-i l = length l.bytes / 4 - l.i
+abbrev pub invariant-loop-word : goal.invariant-loop-word
+invariant-loop-word l =
+    record {
+      left : Left 4 (numbers_of 4 l.bytes) (length l.yielded) l.word-iterator;
+      sum : l.sum ≡ total (take (length l.yielded) (numbers_of 4 l.bytes)) % 2 ^ 32;
+    }

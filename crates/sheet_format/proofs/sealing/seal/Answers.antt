@@ -1,9 +1,20 @@
--- The fields and the check word are written after the body.
+-- The fields are written after the body, then the check word of both.
 use Rattle.std.proofs.Common.{arith}
+use Rattle.sheet_format.specs.Trailer.{trailer_for}
 use Rattle.sheet_format.proofs.Parts.{body_sealed}
 use Rattle.sheet_format.proofs.sealing.seal.Goals as goal
 
+pub put-requires : goal.put-requires
+unfolding trailer_for
+put-requires c = (
+  rw c.of_sheet-trailer.ensures c.requires.0,
+  omega (arith, c.requires.1, c.split_at_mut-front.ensures.front_len, c.split_at_mut-fields.ensures.back_len),
+)
+
 pub returns : goal.returns
 returns c =
-    body_sealed c.args.settings c.args.label c.args.count c.args.bytes.now (omega (arith, c.requires.1))
-    c.put_fields.ensures c.check_word-check.ensures c.put_number.ensures
+    body_sealed c.args.settings c.args.label c.args.count c.args.bytes.now c.requires.1
+    (rw c.split_at_mut-front.ensures.front at c.split_at_mut-fields.ensures.front)
+    c.split_at_mut-front.ensures.back
+    (rw c.of_sheet-trailer.ensures at c.put.ensures)
+    (rw (c.from.ensures, c.check_word.ensures) at c.put_number.ensures)
