@@ -38,6 +38,10 @@ not_there : (edit : Edit) (t x : ℕ) → (x + edit.added ≡ t + edit.removed �
 unfolding was_at
 not_there edit t x other = ne_eqb _ _ other
 
+-- whether the next old cut, as the list lends it, is at an offset
+abbrev is_at : Option (Bor ℕ) → Bor ℕ → Bool
+is_at next offset = option_eq (λ x y. eqb x.now y.now) next (Some offset)
+
 module _ (edit : Edit) (t : ℕ) (left : List ℕ) where
   -- below the change's end
   pub look_early : t < edit.at + edit.added → (0 ≡ passed_by edit left t) × (false ≡ meets edit left t)
@@ -91,15 +95,15 @@ module _ (edit : Edit) (t : ℕ) (left : List ℕ) where
           e ∙ unmet (λ i below is. eqb-false (get_or left r 0) _ e
           (omega (arith, ap (λ l. get_or l 0 0) there, first_least (drop r left) (ascends_after r left rises) i below))))
 
-    -- the next old cut, as the list lends it, is at that place just where t meets one
-    next_met : Ascends left → (next : Option (Bor ℕ)) → IsItemAt left r next → (offset : Bor ℕ) → offset.now ≡ place_of edit t → option_eq (λ x y. eqb x.now y.now) next (Some offset) ≡ meets edit left t
+    -- the next old cut is at that place just where t meets one
+    next_met : Ascends left → (next : Option (Bor ℕ)) → IsItemAt left r next → (offset : Bor ℕ) → offset.now ≡ place_of edit t
+        → is_at next offset ≡ meets edit left t
     next_met rises None item offset is = look_end item.3
     next_met rises (Some x) item offset is = rw (item.4 (omega arith) 0, is) (look_at rises item.3.0)
 
     -- how many old cuts a look past the change's end passes, and that comparing the next of them finds whether t meets one
-    pub look_next :
-        Ascends left → (next : Option (Bor ℕ)) → IsItemAt left r next → (offset : Bor ℕ) → offset.now ≡ place_of edit t → {met : Bool} → met ≡ option_eq (λ x y. eqb x.now y.now) next (Some offset)
-        → (r ≡ passed_by edit left t) × (meets edit left t ≡ met)
+    pub look_next : Ascends left → (next : Option (Bor ℕ)) → IsItemAt left r next → (offset : Bor ℕ) → offset.now ≡ place_of edit t
+        → {met : Bool} → met ≡ is_at next offset → (r ≡ passed_by edit left t) × (meets edit left t ≡ met)
     look_next rises next item offset is told = (look_passes, sym (told ∙ next_met rises next item offset is))
 
     look_past : Ascends left → Looked edit t left r (meets edit left t)

@@ -6,7 +6,7 @@ use mathlib.Core.Bool.{Bool, true}
 use mathlib.Core.List.{List, [], ◌∷◌, ◌++◌, map}
 use native.Mathlib.Nat.{zero-add}
 use native.Mathlib.Omega.{arith}
-use lib.ListN.{length, get_or, take, drop, length-append, length-map}
+use lib.ListN.{length, get_or, take, drop, length-append, length-map, length-drop}
 use lib.Seq.{sets, length-sets, length-take-le, get_or-drop}
 use borrow.Author.Tests.{le-ltb, lt-ltb}
 use Rattle.laws.specs.Last.{last_or}
@@ -88,6 +88,12 @@ unfolding cuts_from
 few_made settings log {edit} {past} {before = before} r =
     let short = until_short (meets edit past) (new_cuts_of settings log before.cut) in
     omega (arith, r.puts.counted, short, chain_short (next_cut settings log) (length log) (length log - before.cut) before.cut)
+
+-- nor more entries in all than places that 64 bits count: those kept and made anew, and those past the front that were not passed
+pub few_left : (settings : Settings) (log : List ℕ) {old : List ℕ} {edit : Edit} → Sound old edit → length log ≤ 2 ^ 40
+    → {past list list' : List ℕ} {before after : Made} {passed : ℕ} → Recutted edit past (new_cuts_of settings log before.cut) before after list list' passed
+    → length past + before.count ≡ length old → after.count + length (drop passed past) < 2 ^ 64
+few_left settings log fine short {past} {passed = passed} made whole = omega (arith, few_made settings log made, whole, fine.few, short, length-drop passed past)
 
 unmoved : (l : List ℕ) → map (shifted 0 0) l ≡ l
 unmoved [] = refl

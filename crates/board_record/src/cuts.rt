@@ -13,7 +13,8 @@ use lists::Made;
 // The cut that follows a cut of a stretch if it stays in it, whatever follows.
 fn next_hop(cutter: &Cutter, bytes: &[u8], cut: usize) -> Option<usize>
     requires { (cut ≤ length bytes.now) × (length bytes.now ≤ 2 ^ 40) }
-    ensures stays { IfSome result (λ next. (next ≤ length bytes.now) × (hop (mark cutter.now.marks.settings bytes.now) cutter.now.marks.settings.minimum cutter.now.marks.settings.maximum cut ≡ next)) }
+    ensures stays { IfSome result (λ next. (next ≤ length bytes.now)
+        × (hop (mark cutter.now.marks.settings bytes.now) cutter.now.marks.settings.minimum cutter.now.marks.settings.maximum cut ≡ next)) }
     ensures leaves { IfNone result (length bytes.now < hop (mark cutter.now.marks.settings bytes.now) cutter.now.marks.settings.minimum cutter.now.marks.settings.maximum cut) }
 {
     let settings = cutter.marks.settings;
@@ -35,7 +36,8 @@ fn next_hop(cutter: &Cutter, bytes: &[u8], cut: usize) -> Option<usize>
 // The one-pass cuts of a stretch that follow a cut: what the record lists of them.
 pub fn record_cuts(cutter: &Cutter, stretch: &Stretch, mut made: Made, list: &mut [u64]) -> Made
     requires { (stretch.now.base ≤ made.cut) × (made.cut ≤ stretch.now.base + length stretch.now.bytes.now) }
-    ensures { Puts (cuts_up_to (mark_from cutter.now.marks.settings stretch.now.bytes.now stretch.now.base) cutter.now.marks.settings.minimum cutter.now.marks.settings.maximum (stretch.now.base + length stretch.now.bytes.now) made.cut) made result list.old list.new }
+    ensures { Puts (cuts_up_to (mark_from cutter.now.marks.settings stretch.now.bytes.now stretch.now.base)
+        cutter.now.marks.settings.minimum cutter.now.marks.settings.maximum (stretch.now.base + length stretch.now.bytes.now) made.cut) made result list.old list.new }
 {
     while let Some(next) = next_hop(cutter, stretch.bytes, (made.cut - stretch.base) as usize) {
         made.put(list, stretch.base + next as u64);

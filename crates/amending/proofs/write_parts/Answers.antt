@@ -1,10 +1,10 @@
 -- `amending::write_parts` meets its contract: proofs/Written.antt says what the three calls leave.
-use Rattle.std.proofs.Common.{◌≡◌, ℕ, ◌≤◌, List, length, length-drop, arith}
+use Rattle.std.proofs.Common.{◌≡◌, ℕ, ◌≤◌, List, length, arith}
 use Rattle.laws.proofs.Slices.{rest_from}
 use Rattle.amending.specs.Parts.{front_count}
 use Rattle.amending.proofs.Front.{count_fits}
 use Rattle.amending.proofs.Looking.{ascends_after}
-use Rattle.amending.proofs.Written.{sound, few_made, back_movable, parts_done, parts_full, parts_fit}
+use Rattle.amending.proofs.Written.{sound, few_left, back_movable, parts_done, parts_full, parts_fit}
 use Rattle.amending.proofs.write_parts.Goals as goal
 
 -- the front is part of the old list
@@ -40,14 +40,14 @@ put_moved-requires-2 c =
     let fine = sound _ _ _ _ _ c.requires.old_value c.requires.log_value.0 c.requires.log_value.1 in
     let high = rw c.split_at.ensures.back at c.recut-passed.ensures.movable in
     rw rest_from (
-      omega (arith, few_made _ c.args.log.now c.recut-passed.ensures, c.split_at.ensures.back_len, fine.few, c.requires.log_value.1, length-drop c.recut-passed.result c.split_at.result.1.now),
+      few_left _ c.args.log.now fine c.requires.log_value.1 c.recut-passed.ensures c.split_at.ensures.back_len,
       rw c.split_at.ensures.back (back_movable fine c.front_count-kept.result c.recut-passed.result high),
     )
 
 pub overflow_add-made : goal.overflow_add-made
 overflow_add-made c =
     let fine = sound _ _ _ _ _ c.requires.old_value c.requires.log_value.0 c.requires.log_value.1 in
-    rw rest_from (omega (arith, few_made _ c.args.log.now c.recut-passed.ensures, c.split_at.ensures.back_len, fine.few, c.requires.log_value.1, length-drop c.recut-passed.result c.split_at.result.1.now))
+    rw rest_from (omega (arith, few_left _ c.args.log.now fine c.requires.log_value.1 c.recut-passed.ensures c.split_at.ensures.back_len))
 
 pub returns-then-made-left : goal.returns-then-made-left
 returns-then-made-left c =
