@@ -50,7 +50,7 @@ module _ (edit : Edit) (t : ℕ) (left : List ℕ) where
 
   -- past it: r old cuts are below the place of t
   module _ (far : edit.at + edit.added ≤ t) (r : ℕ) (stops : r ≡ length (until (leb (place_of edit t)) left)) where
-    look_passes : r ≡ passed_by edit left t
+    pub look_passes : r ≡ passed_by edit left t
     unfolding passed_by
     look_passes = rw (le-leb _ t far, passed_by) stops
 
@@ -72,7 +72,7 @@ module _ (edit : Edit) (t : ℕ) (left : List ℕ) where
     unfolding is_empty
     unmet other = meets_by (skipped t (omega arith) ∙ from_none (was_at edit t) (drop r left) (λ i h. not_there edit t (get_or (drop r left) i 0) (λ is. other i h (omega arith))))
 
-    look_end : length left ≤ r → false ≡ meets edit left t
+    pub look_end : length left ≤ r → false ≡ meets edit left t
     look_end h = unmet (λ i below. absurd (omega (arith, length-drop r left)))
 
     module _ (rises : Ascends left) (inside : r < length left) where
@@ -85,7 +85,7 @@ module _ (edit : Edit) (t : ℕ) (left : List ℕ) where
           let at : get_or left r 0 + edit.added ≡ t + edit.removed = omega (arith, eqb-true (get_or left r 0) _ e) in
           skipped t (omega arith) ∙ ap (from (was_at edit t)) there ∙ from_is (was_at edit t) (here (eq-eqb _ _ at))
 
-      look_at : eqb (get_or left r 0) (place_of edit t) ≡ meets edit left t
+      pub look_at : eqb (get_or left r 0) (place_of edit t) ≡ meets edit left t
       unfolding is_empty
       look_at =
           by_test (eqb (get_or left r 0) (place_of edit t))

@@ -63,7 +63,7 @@ module _ (s : Settings) (n size width : ℕ) (board : List ℕ) where
   plain_bays zero i = refl
   plain_bays (suc k) i = plain_bays k (suc i)
 
-  each_done : (k i j : ℕ) → j < k → verdict (bays_rows s n size width board k i) ≡ Ok tt → Judged s n size (i + j) (bay_of width (i + j) board)
+  pub each_done : (k i j : ℕ) → j < k → verdict (bays_rows s n size width board k i) ≡ Ok tt → Judged s n size (i + j) (bay_of width (i + j) board)
   unfolding bays_rows
   each_done zero i j h v = absurd (omega arith)
   each_done (suc k) i zero h v =

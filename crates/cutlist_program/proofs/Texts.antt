@@ -45,7 +45,7 @@ spelled_by n k low fewest =
     (sym (places_found 19 1 n k fewest.0 (omega (arith, few_digits n k low fewest)) fewest.1 fewest.2))
 
 -- the line of one cut more
-lines_more : (last : ℕ) (cuts : List ℕ) (cut : ℕ) → lines last (cuts ++ (cut ∷ [])) ≡ lines last cuts ++ pair cut (32 ∷ []) (cut - last_or last cuts)
+pub lines_more : (last : ℕ) (cuts : List ℕ) (cut : ℕ) → lines last (cuts ++ (cut ∷ [])) ≡ lines last cuts ++ pair cut (32 ∷ []) (cut - last_or last cuts)
 unfolding lines last_or
 lines_more last [] cut = append-nil _
 lines_more last (first ∷ cuts) cut = rw (lines_more first cuts cut, append_assoc)

@@ -10,13 +10,15 @@ pub mod search;
 
 use lists::Made;
 use search::Cutter;
-use terms::{Answer, Refusal, Settings};
+use terms::{Answer, Checked, Refusal, Settings};
 
-// Writes the cuts of a log, one after the other, and asks at the end whether the list had room for them.
-fn write_cuts(cutter: &Cutter, log: &[u8], list: &mut [u64]) -> Answer
-    ensures answer { result ≡ written_answer (cut_list cutter.now.marks.settings log.now) (length list.old) }
-    ensures list { list.new ≡ written_list (cut_list cutter.now.marks.settings log.now) list.old }
+// Writes the cuts of a log, one after the other, and asks at the end whether the list had room for them. The tables are made here and not in
+// cut_log: a function pays for its locals when it is entered, and a refused call should not pay for tables.
+fn write_cuts(rule: Checked, log: &[u8], list: &mut [u64]) -> Answer
+    ensures answer { result ≡ written_answer (cut_list rule.settings log.now) (length list.old) }
+    ensures list { list.new ≡ written_list (cut_list rule.settings log.now) list.old }
 {
+    let cutter = Cutter::new(rule);
     let mut made = Made::after(0);
     while made.cut < log.len() as u64 {
         let cut = cutter.next_cut(log, made.cut as usize);
@@ -43,5 +45,5 @@ pub fn cut_log(settings: Settings, log: &[u8], list: &mut [u64]) -> Answer
     if places < bytes / settings.minimum + 1 {
         return Err(Refusal::RoomTooShort);
     }
-    write_cuts(&Cutter::new(rule), log, list)
+    write_cuts(rule, log, list)
 }

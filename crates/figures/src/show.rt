@@ -1,4 +1,5 @@
 // Lines of text: an answer, and the entries of a lent list as the call left them.
+use std::io::AsBytes;
 use std::{fmt, io};
 use terms::{Answer, Refusal};
 
@@ -51,7 +52,13 @@ impl fmt::Display for Hex<'_> {
     }
 }
 
-// A line: what was called, its answer, and the list that it left.
-pub fn answer(rt: &impl Print, what: &str, answer: Answer, list: &[u64]) -> io::Result<()> {
-    println!(rt; "{what}: {}{}", Told(answer.map(Wrote)), Spaced(list))
+// A line: what was called, its answer, and the list that it left. What was called is any bytes, text or not.
+pub fn answer(
+    rt: &impl Print,
+    what: impl AsBytes + Drop,
+    answer: Answer,
+    list: &[u64],
+) -> io::Result<()> {
+    rt.write_all(what.as_byte_slice())?;
+    println!(rt; ": {}{}", Told(answer.map(Wrote)), Spaced(list))
 }

@@ -16,7 +16,9 @@ pub fn step_fits(settings: Settings, last: bool, before: u64, entry: u64) -> boo
         && (last || entry - before >= settings.minimum)
 }
 
-// Whether a list is empty, or rises from 0 by allowed steps to 2^40 at most.
+// Whether a list is empty, or rises from 0 by allowed steps to 2^40 at most. It stays a call of its own: within a longer function its loop is
+// short of registers and takes up to twice the time.
+#[inline(never)]
 pub fn well_formed(settings: Settings, list: &[u64]) -> bool
     ensures { result ≡ well_formed settings.minimum settings.maximum list.now }
 {

@@ -21,12 +21,10 @@ impl Carry {
     pub fn in_order(&self) -> bool
         ensures { result ≡ in_order self.now }
     {
-        let signature = Tables::new().of_window(&self.window);
-        let zeros = self.zeros_first();
         self.since <= self.taken
             && self.since < self.settings.maximum
-            && self.signature == signature
-            && zeros
+            && self.signature == Tables::new().of_window(&self.window)
+            && self.zeros_first()
             && self.taken <= terms::LONGEST
             && self.closed <= 1
     }

@@ -1,5 +1,5 @@
 -- A sheet as it is laid out: how long its fields are, where its parts stand, and the whole from its parts.
-use Rattle.std.proofs.Common.{◌≡◌, ℕ, ◌+◌, ◌-◌, ◌*◌, ◌≤◌, List, ◌++◌, length, take, drop, refl, ◌∙◌, append_assoc, arith, length-append, length-drop, length-take-le, drop-drop}
+use Rattle.std.proofs.Common.{◌≡◌, ℕ, ◌+◌, ◌-◌, ◌*◌, ◌≤◌, List, [], ◌∷◌, ◌++◌, length, take, drop, refl, ◌∙◌, sym, ap, append_assoc, arith, length-append, length-drop, length-take-le, drop-drop}
 use lib.Seq.{drop-append_seam, drop-append-add, take-take}
 use Rattle.laws.specs.Over.{over}
 use Rattle.laws.proofs.Writing.{take_over}
@@ -16,6 +16,23 @@ use Rattle.sheet_format.specs.Clean.{trailer_bytes, trailer_of, sheet_in}
 pub length_fields : (mark : List ℕ) (t : Trailer) → length mark ≡ 4 → length (fields mark t) ≡ 28
 unfolding fields written big_endian
 length_fields mark t four = rw (length-append, four)
+
+-- the parts of a trailer's fields, written one after the other: together the fields, and what stands past them stays
+module _ (mark : List ℕ) (t : Trailer) where
+  abbrev signs : List ℕ
+  signs = t.label ∷ t.settings.bits ∷ t.six ∷ t.seven ∷ []
+
+  abbrev sizes : List ℕ
+  sizes = t.settings.target ∷ t.settings.minimum ∷ t.settings.maximum ∷ t.count ∷ t.distance ∷ []
+
+  pub fields_over : (b : List ℕ) {second rest third : List ℕ} → length mark ≡ 4 → second ≡ drop 4 b → rest ≡ drop 4 second → third ≡ over (written 4 sizes) rest
+      → mark ++ (signs ++ third) ≡ over (fields mark t) b
+  unfolding over fields
+  fields_over b {second} {rest} four e₁ e₂ e₃ =
+      let past : drop 20 rest ≡ drop 28 b = ap (drop 20) (e₂ ∙ ap (drop 4) e₁ ∙ drop-drop 4 4 b) ∙ drop-drop 20 8 b in
+      let own : drop (length (written 4 sizes)) rest ≡ drop (length (fields mark t)) b =
+      ap (λ n. drop n rest) (length_written 4 sizes) ∙ past ∙ ap (λ n. drop n b) (sym (length_fields mark t four)) in
+      rw (e₃, own) (sym (append_assoc mark (signs ++ written 4 sizes) (drop (length (fields mark t)) b)))
 
 -- what stands before a sheet's check word
 pub length_front : (mark body : List ℕ) (t : Trailer) → length mark ≡ 4 → length (body ++ fields mark t) ≡ length body + 28

@@ -1,5 +1,6 @@
 // The trailer of a sheet, each way.
 ghost use Rattle.std.specs.Prelude.{◌≡◌, ◌*◌, ◌^◌, ◌<◌, ◌≤◌, length};
+ghost use Rattle.laws.specs.Over.{over};
 ghost use Rattle.sheet_format.specs.Trailer.{fields, trailer_in, trailer_for, is_label, trailer_right};
 ghost use Rattle.sheet_format.specs.Clean.{has_trailer, trailer_of};
 
@@ -100,10 +101,11 @@ impl Trailer {
             && self.distance <= before
     }
 
-    // Writes a trailer's bytes up to its check word. It is inner: the caller sees that K is a byte, and lends as many.
-    pub fn put(self, mark: &[u8; 4], bytes: &mut [u8])
-        requires { (self.settings.bits < 256) × (length bytes.old ≡ 28) }
-        ensures { bytes.new ≡ fields mark.now self }
+    // Writes a trailer's bytes up to its check word, from the first of the bytes on. It is inner: the caller sees that the mark is one of a
+    // form, that K is a byte and that there is room.
+    pub fn put(self, mark: &[u8], bytes: &mut [u8])
+        requires { (length mark.now ≡ 4) × (self.settings.bits < 256) × (28 ≤ length bytes.old) }
+        ensures { bytes.new ≡ over (fields mark.now self) bytes.old }
     {
         let settings = self.settings;
         let signs = [self.label, settings.bits as u8, self.six, self.seven];

@@ -9,10 +9,10 @@ mod entries;
 
 // The two tables: what each leaving byte has added to the signature once a byte more has entered, and what each byte that the shift pushes
 // out comes back as. Whoever rolls over many bytes takes them once, into a local, and lends them: each use of a constant table copies it.
-#[derive(Drop)]
+#[derive(Clone, Copy, Debug, PartialEq, Eq, PartialOrd, Ord, Hash)]
 pub struct Tables {
-    leaving: [u32; 256],
-    pushed: [u32; 256],
+    pub leaving: [u32; 256],
+    pub pushed: [u32; 256],
     pub ghost leaving_is: { leaving ≡ leaving_table },
     pub ghost pushed_is: { pushed ≡ pushed_table },
 }

@@ -9,6 +9,7 @@ use lib.Pow.{pow_mono, mod-pow-add}
 use lib.ListN.{length, take, drop, get_or, set, length-append, length-drop}
 use lib.Seq.{take-append-le, drop-append-le, take-suc, length-take-le, drop-drop}
 use lib.Arith.{digits_lt}
+use Rattle.std.specs.Int.{w64, from_be_bytes}
 use Rattle.laws.specs.Bytes.{Bytes}
 use Rattle.laws.proofs.Bytes.{byte_power, number_lt, number_snoc, bytes_take, bytes_drop}
 use Rattle.laws.proofs.Writing.{over_next, over_from_over}
@@ -118,3 +119,17 @@ numbers_front width (suc count) front rest h =
     let left : width * count ≤ length (drop width front) = rw length-drop (omega arith) in
     rw (take-append-le width front rest within, drop-append-le width front rest within)
     (ap (λ (r : List ℕ). number (take width front) ∷ r) (numbers_front width count (drop width front) rest left))
+
+-- eight bytes, each weighed by its place
+pub eight_weighed : (bytes : List ℕ) → length bytes ≡ 8 → from_be_bytes w64 bytes ≡ number bytes
+unfolding number
+eight_weighed [] e = absurd (omega (arith, e))
+eight_weighed (_ ∷ []) e = absurd (omega (arith, e))
+eight_weighed (_ ∷ _ ∷ []) e = absurd (omega (arith, e))
+eight_weighed (_ ∷ _ ∷ _ ∷ []) e = absurd (omega (arith, e))
+eight_weighed (_ ∷ _ ∷ _ ∷ _ ∷ []) e = absurd (omega (arith, e))
+eight_weighed (_ ∷ _ ∷ _ ∷ _ ∷ _ ∷ []) e = absurd (omega (arith, e))
+eight_weighed (_ ∷ _ ∷ _ ∷ _ ∷ _ ∷ _ ∷ []) e = absurd (omega (arith, e))
+eight_weighed (_ ∷ _ ∷ _ ∷ _ ∷ _ ∷ _ ∷ _ ∷ []) e = absurd (omega (arith, e))
+eight_weighed (_ ∷ _ ∷ _ ∷ _ ∷ _ ∷ _ ∷ _ ∷ _ ∷ []) e = omega arith
+eight_weighed (_ ∷ _ ∷ _ ∷ _ ∷ _ ∷ _ ∷ _ ∷ _ ∷ _ ∷ _) e = absurd (omega (arith, e))

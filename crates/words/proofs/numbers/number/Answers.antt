@@ -1,7 +1,7 @@
 -- A byte more keeps the number within its range.
-use Rattle.std.proofs.Common.{◌+◌, ◌<◌, sym, arith, lit<, rules}
+use Rattle.std.proofs.Common.{◌+◌, ◌<◌, sym, ◌∙◌, arith, lit<, rules}
 use Rattle.words.specs.Numbers.{number}
-use Rattle.words.proofs.BigEndian.{number_more, byte_more, within_64}
+use Rattle.words.proofs.BigEndian.{number_more, byte_more, within_64, eight_weighed}
 use Rattle.words.proofs.numbers.number.Goals as goal
 
 pub loop-byte-init : goal.loop-byte-init
@@ -26,3 +26,8 @@ loop-byte-preserved c =
       value = rw (c.from.ensures, c.loop-byte.invariant.value) (sym (number_more _ _ c.loop-byte-test.true));
       small = byte_more c.loop-byte.byte-index c.loop-byte.invariant.small byte;
     }
+
+pub returns-in-Ok : goal.returns-in-Ok
+returns-in-Ok c =
+    let whole = c.in-Ok.ensures.1 in
+    (rw whole.same at c.from_be_bytes.ensures ∙ eight_weighed c.args.bytes.now whole.long, rw whole.long (omega (arith, c.from_be_bytes.type_inv)))
