@@ -23,6 +23,8 @@ pub fn front_count(old: &[u64], place: u64) -> usize
 
 // Writes old cuts, moved by the bytes added less those removed, from a place of the list on, as far as it goes: the list may end before the
 // place. Places are counted: a `zip` over the list's `get_mut(at..)` was tried and its proof did not close, as such a loop tells nothing of what it wrote.
+// It stays a call of its own, as lists::well_formed does: its loop is then not short of registers.
+#[inline(never)]
 pub fn put_moved(part: &[u64], removed: u64, added: u64, list: &mut [u64], at: u64)
     requires { (at + length part.now < 2 ^ 64) × Movable removed added part.now }
     ensures { list.new ≡ sets list.old at (map (shifted removed added) part.now) }
