@@ -1,8 +1,8 @@
 -- A sheet as it is laid out: how long its fields are, where its parts stand, and the whole from its parts.
 use Rattle.std.proofs.Common.{◌≡◌, ℕ, ◌+◌, ◌-◌, ◌*◌, ◌≤◌, List, [], ◌∷◌, ◌++◌, length, take, drop, refl, ◌∙◌, sym, ap, append_assoc, arith, length-append, length-drop, length-take-le, drop-drop}
-use lib.Seq.{drop-append_seam, drop-append-add, take-take}
-use Rattle.laws.specs.Over.{over}
-use Rattle.laws.proofs.Writing.{take_over}
+use lib.Seq.{take-append_seam, drop-append_seam, drop-append-add, take-take}
+use Rattle.laws.specs.Over.{over, over_from}
+use Rattle.laws.proofs.Writing.{take_over, over_from_over}
 use Rattle.terms.specs.declared.Settings.{Settings}
 use Rattle.terms.specs.declared.Label.{Label}
 use Rattle.words.specs.Numbers.{big_endian, written, numbers_of}
@@ -17,22 +17,25 @@ pub length_fields : (mark : List ℕ) (t : Trailer) → length mark ≡ 4 → le
 unfolding fields written big_endian
 length_fields mark t four = rw (length-append, four)
 
+-- what is written after l, past it, is written with l
+written_after : (l m b : List ℕ) → l ++ over m (drop (length l) b) ≡ over (l ++ m) b
+unfolding over over_from
+written_after l m b = rw (take-append_seam, drop-append_seam) at (over_from_over l m b)
+
 -- the parts of a trailer's fields, written one after the other: together the fields, and what stands past them stays
 module _ (mark : List ℕ) (t : Trailer) where
   abbrev signs : List ℕ
   signs = t.label ∷ t.settings.bits ∷ t.six ∷ t.seven ∷ []
 
   abbrev sizes : List ℕ
-  sizes = t.settings.target ∷ t.settings.minimum ∷ t.settings.maximum ∷ t.count ∷ t.distance ∷ []
+  sizes = written 4 (t.settings.target ∷ t.settings.minimum ∷ t.settings.maximum ∷ t.count ∷ t.distance ∷ [])
 
-  pub fields_over : (b : List ℕ) {second rest third : List ℕ} → length mark ≡ 4 → second ≡ drop 4 b → rest ≡ drop 4 second → third ≡ over (written 4 sizes) rest
+  pub fields_over : (b : List ℕ) {second rest third : List ℕ} → length mark ≡ 4 → second ≡ drop 4 b → rest ≡ drop 4 second → third ≡ over sizes rest
       → mark ++ (signs ++ third) ≡ over (fields mark t) b
-  unfolding over fields
-  fields_over b {second} {rest} four e₁ e₂ e₃ =
-      let past : drop 20 rest ≡ drop 28 b = ap (drop 20) (e₂ ∙ ap (drop 4) e₁ ∙ drop-drop 4 4 b) ∙ drop-drop 20 8 b in
-      let own : drop (length (written 4 sizes)) rest ≡ drop (length (fields mark t)) b =
-      ap (λ n. drop n rest) (length_written 4 sizes) ∙ past ∙ ap (λ n. drop n b) (sym (length_fields mark t four)) in
-      rw (e₃, own) (sym (append_assoc mark (signs ++ written 4 sizes) (drop (length (fields mark t)) b)))
+  unfolding fields
+  fields_over b {second} four e₁ e₂ e₃ =
+      let past : second ≡ drop (length mark) b = e₁ ∙ ap (λ n. drop n b) (sym four) in
+      rw (e₃, e₂, written_after signs sizes second, past) (written_after mark (signs ++ sizes) b)
 
 -- what stands before a sheet's check word
 pub length_front : (mark body : List ℕ) (t : Trailer) → length mark ≡ 4 → length (body ++ fields mark t) ≡ length body + 28
